@@ -1,10 +1,10 @@
 //! What no clause says: texts drawn again and again, with small tables, beside `cell_grid::draw`.
 //!
-//! A draw from a view that was refused memory is made again, and not counted.
+//! A draw or print of a view that was refused memory is made again, and not counted.
 
 use crate::rows::{Row, assert_rows};
 use bg_types::{Base, Memory};
-use cell_grid::{Grid, Row as GridRow, draw};
+use cell_grid::{Grid, InMemory, Row as GridRow, draw, print};
 use paragraphs::split;
 use std::alloc::{AllocError, Global};
 use std::slice::from_ref;
@@ -125,6 +125,84 @@ const WALKS: &[Walk] = &[
 #[test]
 fn what_is_kept_is_not_laid_out_again(rt: HostRuntime) {
     assert_rows(&rt, WALKS);
+}
+
+/// Whether what a view prints is what `cell_grid::print` writes of a grid, and it lays out as many paragraphs as are wanted, if any
+/// are and no growth was refused.
+fn prints_same(
+    alloc: Global,
+    view: &mut View,
+    fresh: &Grid,
+    (width, base, text): (u16, Base, &str),
+    wanted: Option<usize>,
+) -> Result<bool, Memory> {
+    if width < 2 || width > 500 || text.len() > 4_000_000 {
+        return Ok(false);
+    }
+    let mut drawn = InMemory::new(alloc);
+    let mut sink = InMemory::new(alloc);
+    let (kept, counted) = match view.printed(width, base, text) {
+        Ok(kept) => (kept, true),
+        Err(Memory) => (view.printed(width, base, text)?, false),
+    };
+    if print(fresh, &mut drawn).is_err() || kept.write(&mut sink).is_err() {
+        return Err(Memory);
+    }
+    let same = sink.bytes == drawn.bytes;
+    Ok(same && (!counted || wanted.is_none_or(|laid| view.laid() == laid)))
+}
+
+fn prints_both(
+    alloc: Global,
+    tables: &Tables,
+    view: &mut View,
+    given: (u16, Base, &str),
+    wanted: Option<usize>,
+) -> Result<bool, Memory> {
+    let (width, base, text) = given;
+    if width < 2 || width > 500 || text.len() > 4_000_000 {
+        return Ok(false);
+    }
+    match draw(alloc, tables, width, base, text) {
+        Ok(fresh) => prints_same(alloc, view, &fresh, given, wanted),
+        Err(Memory) => Err(Memory),
+    }
+}
+
+/// Prints of a new view, each with how many paragraphs it lays out.
+struct Prints(&'static [Draw<'static>]);
+
+impl Row for Prints {
+    fn comes_out(&self, alloc: Global, tables: &Tables) -> Result<bool, Memory> {
+        let mut view = View::new(alloc, tables)?;
+        let mut right = true;
+        for (width, base, text, laid) in self.0 {
+            let given = (*width, *base, *text);
+            right = prints_both(alloc, tables, &mut view, given, Some(*laid))? && right;
+        }
+        Ok(right)
+    }
+}
+
+const PRINTS: &[Prints] = &[
+    Prints(&[(4, Base::Auto, "", 1), (4, Base::Auto, "\n", 1)]),
+    Prints(&[
+        (4, Base::Auto, "a\nb", 2),
+        (4, Base::Auto, "a\nb", 0),
+        (4, Base::Auto, "xa\nb", 1),
+        (2, Base::Auto, "xa\nb", 2),
+        (4, Base::Auto, "b\nxa\n", 2),
+    ]),
+    Prints(&[
+        (6, Base::Auto, "\u{5D0}(\n\u{4E16}b\tc\u{301}", 2),
+        (6, Base::Auto, "a\n\u{4E16}b\tc\u{301}\n\u{5D0}(\n", 3),
+        (6, Base::Right, "\u{5D0}(\n", 2),
+    ]),
+];
+
+#[test]
+fn what_is_printed_is_what_is_drawn(rt: HostRuntime) {
+    assert_rows(&rt, PRINTS);
 }
 
 /// Texts that a view draws one after the other, with the first and last place of the second row of each.
@@ -268,6 +346,7 @@ fn draws_at_widths(
     for width in [2, 5, 40] {
         let given = (width, Base::Auto, text.as_str());
         right = draws_both(alloc, tables, view, given, None)? && right;
+        right = prints_both(alloc, tables, view, given, None)? && right;
     }
     Ok(right)
 }

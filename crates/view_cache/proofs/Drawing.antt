@@ -6,11 +6,13 @@ use Rattle.bg_types.specs.declared.class.Base.{Base}
 use Rattle.bg_types.specs.declared.fault.Memory.{Memory}
 use Rattle.paragraphs.specs.Paragraphs.{Paragraph, paragraphs}
 use Rattle.cell_grid.specs.Rows.{DrawnRow}
-use Rattle.cell_grid.specs.Grids.{DrawnGrid, paragraph_rows, grid_rows, IsDrawn}
+use Rattle.unicode_tables.specs.Tables.{TableValues}
+use Rattle.cell_grid.specs.Grids.{DrawnGrid, paragraph_rows, grid_rows, grid_of, IsDrawn}
+use Rattle.cell_grid.specs.Print.{printed_paragraph, shown}
 use Rattle.cell_grid.proofs.Interface.{take-next, flat_map-take_next}
 use Rattle.view_cache.specs.Keys.{ParagraphKey, paragraph_key}
 use Rattle.view_cache.specs.Uses.{is_kept, all_used, laid_anew}
-use Rattle.view_cache.specs.Drawings.{KeptView, paragraph_keys, uses_of, IsDrawing}
+use Rattle.view_cache.specs.Drawings.{KeptView, paragraph_keys, uses_of, IsDrawing, IsPrinting}
 use Rattle.view_cache.proofs.Kept.{view_used}
 use Rattle.view_cache.proofs.Uses.{all_used-append, laid_anew-append}
 
@@ -57,6 +59,10 @@ module _ (width : ℕ) (base : Base) where
     abbrev pub rows_so_far : List Paragraph → List DrawnRow
     rows_so_far ps = flat_map (paragraph_rows before.tables width base) ps
 
+    -- what these print
+    abbrev pub print_so_far : List Paragraph → List ℕ
+    print_so_far ps = flat_map (λ (p : Paragraph). printed_paragraph before.tables width base p.text) ps
+
     -- the first of some paragraphs use the first of their keys
     pub so_far-begun : (n : ℕ) (items : List Paragraph) → so_far (take n items) ≡ after_keys (take n (paragraph_keys width base items))
     so_far-begun n items = ap after_keys (keys-take n items)
@@ -81,14 +87,24 @@ module _ (width : ℕ) (base : Base) where
             used_now ∙ ap (view_used key) was
             ∙ sym (ap after_keys next-keys ∙ ap (λ ks. record before { keys = ks }) (all_used-append before.room (paragraph_keys width base (take i items)) (key ∷ []) before.keys))
 
+        -- what is made of it follows what was made of those before
+        next-joined : {X : Type 0} (made : TableValues → Paragraph → List X) (old joined new : List X) → joined ≡ old ++ flat_map (made before.tables) (take i items)
+            → new ≡ joined ++ made view.tables p → new ≡ old ++ flat_map (made before.tables) (take (i + 1) items)
+        next-joined made old joined new so_far_joined put =
+            put ∙ ap (λ l. l ++ made view.tables p) so_far_joined
+            ∙ ap (λ (v : KeptView). (old ++ flat_map (made before.tables) (take i items)) ++ made v.tables p) was
+            ∙ append_assoc old (flat_map (made before.tables) (take i items)) (made before.tables p)
+            ∙ ap (λ l. old ++ l) (sym (flat_map-take_next (made before.tables) items i p d lt is))
+
         -- its rows follow those before
         pub next-rows : (old drawn new : List DrawnRow) → drawn ≡ old ++ rows_so_far (take i items) → new ≡ drawn ++ paragraph_rows view.tables width base p
             → new ≡ old ++ rows_so_far (take (i + 1) items)
-        next-rows old drawn new so_far_drawn put =
-            put ∙ ap (λ l. l ++ paragraph_rows view.tables width base p) so_far_drawn
-            ∙ ap (λ (v : KeptView). (old ++ rows_so_far (take i items)) ++ paragraph_rows v.tables width base p) was
-            ∙ append_assoc old (rows_so_far (take i items)) (paragraph_rows before.tables width base p)
-            ∙ ap (λ l. old ++ l) (sym (flat_map-take_next (paragraph_rows before.tables width base) items i p d lt is))
+        next-rows = next-joined (λ tables. paragraph_rows tables width base)
+
+        -- and what it prints follows what they do
+        pub next-print : (old printed new : List ℕ) → printed ≡ old ++ print_so_far (take i items) → new ≡ printed ++ printed_paragraph view.tables width base p.text
+            → new ≡ old ++ print_so_far (take (i + 1) items)
+        next-print = next-joined (λ tables q. printed_paragraph tables width base q.text)
 
         -- it is counted where it was laid out
         module _ (laid now : ℕ) (counted : laid ≡ laid_so_far (take i items)) (anew : Bool) (told : anew ≡ not (is_kept key view.keys)) where
@@ -102,6 +118,19 @@ module _ (width : ℕ) (base : Base) where
           counted-else found same = let none = added-else _ (sym found ∙ there) in let next = next-laid in omega arith
 
     -- after all paragraphs of a text
+    used-done : (text : List ℕ) (items : List Paragraph) → items ≡ paragraphs before.tables text → (view : KeptView) → view ≡ so_far items
+        → (laid : ℕ) → laid ≡ laid_so_far items → (grid : DrawnGrid) → grid ≡ grid_of before.tables width base text → IsDrawing before width base text (Ok grid) (record view { laid = laid })
+    used-done text items all view is laid counted grid made = record {
+      grid = made;
+      tables = ap (λ v. v.tables) is;
+      room = ap (λ v. v.room) is;
+      hash_key = ap (λ v. v.hash_key) is;
+      keys = ap (λ v. v.keys) is ∙ ap (λ ps. all_used before.room (paragraph_keys width base ps) before.keys) all;
+      laid = counted ∙ ap laid_so_far all;
+      begun = tt;
+      uncounted = tt;
+    }
+
     module _ (text : List ℕ) (items : List Paragraph) (all : items ≡ paragraphs before.tables text) (first drawn : List DrawnRow) (none : first ≡ []) (put : drawn ≡ first ++ rows_so_far items)
         (view : KeptView) (is : view ≡ so_far items) where
       all-drawn : drawn ≡ grid_rows before.tables width base text
@@ -121,17 +150,18 @@ module _ (width : ℕ) (base : Base) where
 
       pub drawing-done : (laid : ℕ) → laid ≡ laid_so_far items → (grid : DrawnGrid) → grid ≡ record { tables = view.tables; text = text; rows = drawn }
           → IsDrawing before width base text (Ok grid) (record view { laid = laid })
-      drawing-done laid counted grid made = record {
-        grid =
-            made ∙ ap (λ rows. let g : DrawnGrid = record { tables = view.tables; text = text; rows = rows } in g) all-drawn
-            ∙ ap (λ (v : KeptView). let g : DrawnGrid = record { tables = v.tables; text = text; rows = grid_rows before.tables width base text } in g) is;
-        tables = ap (λ v. v.tables) is;
-        room = ap (λ v. v.room) is;
-        hash_key = ap (λ v. v.hash_key) is;
-        keys = ap (λ v. v.keys) is ∙ ap (λ ps. all_used before.room (paragraph_keys width base ps) before.keys) all;
-        laid = counted ∙ ap laid_so_far all;
-        begun = tt;
-        uncounted = tt;
+      drawing-done laid counted grid made =
+          used-done text items all view is laid counted grid
+          (made ∙ ap (λ rows. let g : DrawnGrid = record { tables = view.tables; text = text; rows = rows } in g) all-drawn
+          ∙ ap (λ (v : KeptView). let g : DrawnGrid = record { tables = v.tables; text = text; rows = grid_rows before.tables width base text } in g) is)
+
+    module _ (text : List ℕ) (items : List Paragraph) (all : items ≡ paragraphs before.tables text) (view : KeptView) (is : view ≡ so_far items) where
+      -- the parts are the print
+      pub printing-done : (laid : ℕ) → laid ≡ laid_so_far items → (first print : List ℕ) → first ≡ [] → print ≡ first ++ print_so_far items → shown before.tables width base text ≡ print_so_far (paragraphs before.tables text)
+          → IsPrinting before width base text (Ok print) (record view { laid = laid })
+      printing-done laid counted first print none put whole = record {
+        drawing = used-done text items all view is laid counted (grid_of before.tables width base text) refl;
+        print = put ∙ ap (λ l. l ++ print_so_far items) none ∙ ap print_so_far all ∙ sym whole;
       }
 
     -- after Memory
@@ -147,3 +177,8 @@ module _ (width : ℕ) (base : Base) where
       begun = (n, ap (λ v. v.keys) is);
       uncounted = ap (λ v. v.laid) is;
     })
+
+    pub printing-begun : (text : List ℕ) (view : KeptView) (n : ℕ) (answer : Result (List ℕ) Memory) (fault : Memory) → answer ≡ Err fault
+        → view ≡ after_keys (take n (uses_of before.tables width base text)) → IsPrinting before width base text answer view
+    printing-begun text view n answer fault e is =
+        subst (λ r. IsPrinting before width base text r view) (sym e) (record { drawing = drawing-begun text view n (Err fault) fault refl is; print = tt })

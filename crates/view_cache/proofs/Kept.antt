@@ -1,29 +1,31 @@
 -- What is kept stays right.
-use Rattle.std.proofs.Common.{◌≡◌, ◌≤◌, ◌-◌, ◌^◌, [], ◌∷◌, ℕ, Bool, true, false, not, List, Some, None, Vec, All, Contains, length, map, take, inl, inr, refl, sym, ap, subst, ◌∙◌, rules, arith}
+use Rattle.std.proofs.Common.{◌≡◌, ◌≤◌, ◌-◌, ◌^◌, [], ◌∷◌, ℕ, Bool, true, false, not, List, Some, None, All, Contains, flat_map, length, map, take, inl, inr, refl, sym, ap, ap₂, subst, ◌∙◌, rules, arith}
 use Rattle.std.proofs.lemmas.List.{length-map, length-take}
 use Rattle.std.proofs.lemmas.List.Elements.{All-nil, All-head, All-map, All-contains, All-contains_itself}
 use Rattle.std.specs.Prelude.{is_some, slice_get}
-use Rattle.std.specs.Global.{Global}
 use Rattle.std.specs.Map.{lookup}
 use Rattle.lru.specs.LruCache.{LruCache, lru_cache, promoted, put_entries}
 use Rattle.lru.proofs.CallerLemmas.{Contains-promoted, Contains-put_entries}
 use Rattle.unicode_tables.specs.Tables.{TableValues}
+use Rattle.cell_grid.specs.Print.{printed_paragraph, row_text}
 use Rattle.cell_grid.specs.Rows.{DrawnRow, rows_of}
 use Rattle.cell_grid.proofs.Interface.{take-whole, All-unmap}
 use Rattle.view_cache.specs.declared.key.Key.{Key}
+use Rattle.view_cache.specs.declared.laid.Laid.{Laid}
 use Rattle.view_cache.specs.Keys.{ParagraphKey, said}
 use Rattle.view_cache.specs.Uses.{is_kept, without, used}
-use Rattle.view_cache.specs.KeptParagraphs.{KeptParagraphs, kept_keys, nothing_kept, IsLaidBy, AreLaid, IsNewest, IsUse}
-use Rattle.view_cache.specs.Kept.{entry_said, IsHashedBy, IsKept}
+use Rattle.view_cache.specs.KeptParagraphs.{KeptParagraph, KeptParagraphs, kept_keys, nothing_kept, IsLaidBy, AreLaid, IsNewest, IsUse}
+use Rattle.view_cache.specs.Kept.{entry_said, laid_said, IsHashedBy, IsKept}
 use Rattle.view_cache.specs.Drawings.{KeptView}
 use Rattle.view_cache.specs.contracts.key.KeyPartialEq.TheImpl as key_eq
-use Rattle.view_cache.proofs.Keys.{eq-said, eq-hashed, keys, take-cons, is_kept-lookup, keys-put, keys-promoted, promoted-none}
+use Rattle.view_cache.proofs.Uses.{same-itself}
+use Rattle.view_cache.proofs.Keys.{eq-said, eq-hashed, keys, take-cons, without-hit, is_kept-lookup, keys-put, keys-promoted, promoted-none}
 
 abbrev pub Cache : Type 0
-Cache = LruCache Key (Vec DrawnRow Global)
+Cache = LruCache Key Laid
 
 abbrev Entry : Type 0
-Entry = Key × Vec DrawnRow Global
+Entry = Key × Laid
 
 all_from : (P : Entry → Type 0) (xs : List Entry) → ((x : Entry) → Contains xs x → P x) → All P xs
 all_from P xs f = λ k d h. f _ (All-contains_itself xs k d h)
@@ -33,7 +35,7 @@ promoted-all : (P : Entry → Type 0) (k : Key) (es : List Entry) → All P es �
 promoted-all P k es all = all_from P (promoted ((key_eq.eq-value).it k) es) (λ x c. All-contains P es x all (Contains-promoted ((key_eq.eq-value).it k) es x c))
 
 -- and after one that puts an entry, if it holds of a key equal to the new one with the new rows
-put-all : (P : Entry → Type 0) (c : Cache) (k : Key) (v : Vec DrawnRow Global) → All P c.entries
+put-all : (P : Entry → Type 0) (c : Cache) (k : Key) (v : Laid) → All P c.entries
     → ((x : Entry) → x.1 ≡ v → x.0 ≡ k → P x) → ((x : Entry) → x.1 ≡ v → (key_eq.eq-value).it k x.0 ≡ true → P x)
     → All P (put_entries (key_eq.eq-value).it c k v)
 put-all P c k v all itself equal =
@@ -46,7 +48,7 @@ put-all P c k v all itself equal =
       ]
     ])
 
-put-hashed : (hash_key : ℕ) (c : Cache) (k : Key) (v : Vec DrawnRow Global) → k.hash_key ≡ hash_key → All (IsHashedBy hash_key) c.entries → All (IsHashedBy hash_key) (put_entries (key_eq.eq-value).it c k v)
+put-hashed : (hash_key : ℕ) (c : Cache) (k : Key) (v : Laid) → k.hash_key ≡ hash_key → All (IsHashedBy hash_key) c.entries → All (IsHashedBy hash_key) (put_entries (key_eq.eq-value).it c k v)
 put-hashed hash_key c k v is all =
     put-all (IsHashedBy hash_key) c k v all (λ x value same. ap (λ (j : Key). j.hash_key) same ∙ is) (λ x value same. sym (eq-hashed k x.0 same) ∙ is)
 
@@ -58,19 +60,15 @@ used-fits cap s ks es h =
     omega (arith, d)
 
 module _ (tables : TableValues) where
-  -- the rows of a key
-  abbrev rows_said : ParagraphKey → List DrawnRow
-  rows_said s = rows_of tables s.width s.base s.text
-
-  -- an entry's rows are those of its key
+  -- what an entry has is its key's
   abbrev IsLaid : Entry → Type 0
   IsLaid e = IsLaidBy tables (entry_said e)
 
-  put-laid : (c : Cache) (k : Key) (v : Vec DrawnRow Global) → v.items ≡ rows_said (said k) → All IsLaid c.entries → All IsLaid (put_entries (key_eq.eq-value).it c k v)
+  put-laid : (c : Cache) (k : Key) (v : Laid) → IsLaidBy tables (said k, laid_said v) → All IsLaid c.entries → All IsLaid (put_entries (key_eq.eq-value).it c k v)
   put-laid c k v new all =
       put-all IsLaid c k v all
-      (λ x value same. ap (λ r. r.items) value ∙ new ∙ ap (λ j. rows_said (said j)) (sym same))
-      (λ x value same. ap (λ r. r.items) value ∙ new ∙ ap rows_said (eq-said k x.0 same))
+      (λ x value same. subst (IsLaidBy tables) (sym (ap₂ (λ (j : Key) (l : Laid). (said j, laid_said l)) same value)) new)
+      (λ x value same. subst (IsLaidBy tables) (ap₂ (λ (s : ParagraphKey) (l : Laid). (s, laid_said l)) (eq-said k x.0 same) (sym value)) new)
 
   -- what one use does to a cache
   pub record IsUsed (hash_key : ℕ) (c : Cache) (k : Key) (d : Cache) : Type 0 where
@@ -97,7 +95,7 @@ module _ (tables : TableValues) where
         (is-used (promoted ((key_eq.eq-value).it k) c.entries) (promoted-all (IsHashedBy hash_key) k c.entries kept.hashed) (promoted-all IsLaid k c.entries)
         (keys-promoted c k alike kept.some kept.fits there))
 
-    used-put : (v : Vec DrawnRow Global) → d ≡ lru_cache (put_entries (key_eq.eq-value).it c k v) c.cap → v.items ≡ rows_of tables (said k).width (said k).base (said k).text → IsUsed hash_key c k d
+    pub used-put : (v : Laid) → d ≡ lru_cache (put_entries (key_eq.eq-value).it c k v) c.cap → IsLaidBy tables (said k, laid_said v) → IsUsed hash_key c k d
     used-put v e right =
         subst (IsUsed hash_key c k) (sym e)
         (is-used (put_entries (key_eq.eq-value).it c k v) (put-hashed hash_key c k v hashed kept.hashed) (put-laid c k v right)
@@ -107,16 +105,33 @@ module _ (tables : TableValues) where
     pub unmoved : (m : Cache) → m ≡ lru_cache (promoted ((key_eq.eq-value).it k) c.entries) c.cap → is_some (lookup ((key_eq.eq-value).it k) c.entries) ≡ false → m ≡ c
     unmoved m e none = e ∙ ap (λ es. lru_cache es c.cap) (promoted-none ((key_eq.eq-value).it k) c.entries none)
 
-    pub used-missed : (m : Cache) (v : Vec DrawnRow Global) → m ≡ lru_cache (promoted ((key_eq.eq-value).it k) c.entries) c.cap → is_some (lookup ((key_eq.eq-value).it k) c.entries) ≡ false
-        → d ≡ lru_cache (put_entries (key_eq.eq-value).it m k v) m.cap → v.items ≡ rows_of tables (said k).width (said k).base (said k).text → IsUsed hash_key c k d
+    pub used-missed : (m : Cache) (v : Laid) → m ≡ lru_cache (promoted ((key_eq.eq-value).it k) c.entries) c.cap → is_some (lookup ((key_eq.eq-value).it k) c.entries) ≡ false
+        → d ≡ lru_cache (put_entries (key_eq.eq-value).it m k v) m.cap → IsLaidBy tables (said k, laid_said v) → IsUsed hash_key c k d
     used-missed m v e none put right = used-put v (put ∙ ap (λ (n : Cache). lru_cache (put_entries (key_eq.eq-value).it n k v) n.cap) (unmoved m e none)) right
+
+-- rows that were laid out, and print nothing yet
+pub laid-right : (tables : TableValues) (s key : ParagraphKey) (l : KeptParagraph) → s ≡ key → l ≡ record { rows = rows_of tables key.width key.base key.text; print = None } → IsLaidBy tables (s, l)
+laid-right tables s key l says is = subst (IsLaidBy tables) (sym (ap₂ (λ (t : ParagraphKey) (m : KeptParagraph). (t, m)) says is)) (record { rows = refl; print = tt })
+
+-- what rows of a paragraph print in its text
+pub print-made : (tables : TableValues) (key : ParagraphKey) (text : List ℕ) (rows : List DrawnRow) (print : List ℕ) → print ≡ flat_map (row_text tables text) rows → text ≡ key.text
+    → rows ≡ rows_of tables key.width key.base key.text → print ≡ printed_paragraph tables key.width key.base key.text
+print-made tables key text rows print is own laid = is ∙ ap (λ t. flat_map (row_text tables t) rows) own ∙ ap (flat_map (row_text tables key.text)) laid
+
+-- a use of the newest key changes no key
+used-newest : (room : ℕ) (key : ParagraphKey) (earlier ks : List ParagraphKey) → ks ≡ key ∷ earlier → length ks ≤ room → used room key ks ≡ ks
+used-newest room key earlier ks is fits =
+    ap (λ (l : List ParagraphKey). take room (key ∷ without key l)) is
+    ∙ ap (λ (l : List ParagraphKey). take room (key ∷ l)) (without-hit key key earlier (same-itself key))
+    ∙ ap (take room) (sym is)
+    ∙ take-whole ks room fits
 
 -- ---- what a contract sees of a cache
 
 abbrev pub kept_of : (hash_key : ℕ) → Cache → KeptParagraphs
 kept_of hash_key c = record { room = c.cap; hash_key = hash_key; entries = map entry_said c.entries }
 
-keys-said : (es : List Entry) → map (λ (e : ParagraphKey × List DrawnRow). e.0) (map entry_said es) ≡ keys es
+keys-said : (es : List Entry) → map (λ (e : ParagraphKey × KeptParagraph). e.0) (map entry_said es) ≡ keys es
 keys-said [] = refl
 keys-said (e ∷ es) = ap (λ l. said e.0 ∷ l) (keys-said es)
 
@@ -164,22 +179,32 @@ module _ (tables : TableValues) (hash_key : ℕ) (c d : Cache) (old : KeptParagr
       let some = kept.some in
       record { earlier = take (old.room - 1) (without key (kept_keys old)); keys = keys-used ∙ take-cons old.room key (without key (kept_keys old)) (omega arith) }
 
+  fits-said : length (kept_keys old) ≤ old.room
+  fits-said =
+      let same : length (keys c.entries) ≡ length c.entries = search (rules, length-map) in
+      subst (λ (o : KeptParagraphs). length (kept_keys o) ≤ o.room) is
+      (subst (λ (ks : List ParagraphKey). length ks ≤ c.cap) (sym (keys-said c.entries)) (omega (arith, same, kept.fits)))
+
+  -- no key changes if it was used last before, too
+  pub keys-same : IsNewest key old → kept_keys (kept_of hash_key d) ≡ kept_keys old
+  keys-same newest = keys-used ∙ used-newest old.room key newest.earlier (kept_keys old) newest.keys fits-said
+
   pub laid-done : AreLaid tables old → AreLaid tables (kept_of hash_key d)
   laid-done all =
       All-map (IsLaidBy tables) entry_said d.entries
       (u.laid (All-unmap (IsLaidBy tables) entry_said c.entries (subst (AreLaid tables) (sym is) all)))
 
--- the rows under the newest key
-newest-of : (tables : TableValues) (es : List (ParagraphKey × List DrawnRow)) (e : ParagraphKey × List DrawnRow) (key : ParagraphKey) (earlier : List ParagraphKey)
-    → slice_get es 0 ≡ Some e → All (IsLaidBy tables) es → map (λ (f : ParagraphKey × List DrawnRow). f.0) es ≡ key ∷ earlier → e.1 ≡ rows_of tables key.width key.base key.text
+-- what is kept under the newest key
+newest-of : (tables : TableValues) (es : List (ParagraphKey × KeptParagraph)) (e : ParagraphKey × KeptParagraph) (key : ParagraphKey) (earlier : List ParagraphKey)
+    → slice_get es 0 ≡ Some e → All (IsLaidBy tables) es → map (λ (f : ParagraphKey × KeptParagraph). f.0) es ≡ key ∷ earlier → IsLaidBy tables (key, e.1)
 newest-of tables [] e key earlier at all first = cc
 newest-of tables (f ∷ es) e key earlier at all first =
     let same : f ≡ e = cc in
     let own : f.0 ≡ key = cc in
-    sym (ap (λ (g : ParagraphKey × List DrawnRow). g.1) same) ∙ All-head (IsLaidBy tables) f es all ∙ ap (rows_said tables) own
+    subst (IsLaidBy tables) (ap₂ (λ (k : ParagraphKey) (g : ParagraphKey × KeptParagraph). (k, g.1)) own same) (All-head (IsLaidBy tables) f es all)
 
 module _ (hash_key : ℕ) (c : Cache) (now : KeptParagraphs) (is : kept_of hash_key c ≡ now) (tables : TableValues) (key : ParagraphKey) (laid : AreLaid tables now) (newest : IsNewest key now) where
-  pub newest-laid : (e : Entry) → slice_get c.entries 0 ≡ Some e → e.1.items ≡ rows_of tables key.width key.base key.text
+  pub newest-laid : (e : Entry) → slice_get c.entries 0 ≡ Some e → IsLaidBy tables (key, laid_said e.1)
   newest-laid e at =
       newest-of tables (map entry_said c.entries) (entry_said e) key newest.earlier (first c.entries at) (subst (AreLaid tables) (sym is) laid)
       (ap (λ (o : KeptParagraphs). kept_keys o) is ∙ newest.keys)
@@ -191,7 +216,7 @@ module _ (hash_key : ℕ) (c : Cache) (now : KeptParagraphs) (is : kept_of hash_
   pub newest-some : slice_get c.entries 0 ≡ None → ⊥
   newest-some none = never c.entries none (ap (λ (o : KeptParagraphs). kept_keys o) is ∙ newest.keys)
     where
-      never : (es : List Entry) → slice_get es 0 ≡ None → map (λ (f : ParagraphKey × List DrawnRow). f.0) (map entry_said es) ≡ key ∷ newest.earlier → ⊥
+      never : (es : List Entry) → slice_get es 0 ≡ None → map (λ (f : ParagraphKey × KeptParagraph). f.0) (map entry_said es) ≡ key ∷ newest.earlier → ⊥
       never [] h k = cc
       never (f ∷ es) h k = cc
 
@@ -200,6 +225,14 @@ module _ (hash_key : ℕ) (c : Cache) (now : KeptParagraphs) (is : kept_of hash_
 -- a view with these kept rows
 abbrev pub view_of : TableValues → KeptParagraphs → (laid : ℕ) → KeptView
 view_of tables kept laid = record { tables = tables; room = kept.room; hash_key = kept.hash_key; keys = kept_keys kept; laid = laid }
+
+-- no other room, key of hashes or keys make no other view
+pub view-same : (tables : TableValues) (kept later : KeptParagraphs) (laid : ℕ) → later.room ≡ kept.room → later.hash_key ≡ kept.hash_key → kept_keys later ≡ kept_keys kept
+    → view_of tables later laid ≡ view_of tables kept laid
+view-same tables kept later laid room hash_key keys =
+    ap (λ r. record { tables = tables; room = r; hash_key = later.hash_key; keys = kept_keys later; laid = laid }) room
+    ∙ ap (λ h. record { tables = tables; room = kept.room; hash_key = h; keys = kept_keys later; laid = laid }) hash_key
+    ∙ ap (λ ks. record { tables = tables; room = kept.room; hash_key = kept.hash_key; keys = ks; laid = laid }) keys
 
 -- a view after a use of a key
 abbrev pub view_used : ParagraphKey → KeptView → KeptView

@@ -35,7 +35,7 @@ is_kept-hit s k ks h = rw (h, is_kept)
 is_kept-miss : (s k : ParagraphKey) (ks : List ParagraphKey) → same_key s k ≡ false → is_kept s (k ∷ ks) ≡ is_kept s ks
 is_kept-miss s k ks h = rw (h, is_kept)
 
-without-hit : (s k : ParagraphKey) (ks : List ParagraphKey) → same_key s k ≡ true → without s (k ∷ ks) ≡ ks
+pub without-hit : (s k : ParagraphKey) (ks : List ParagraphKey) → same_key s k ≡ true → without s (k ∷ ks) ≡ ks
 without-hit s k ks h = rw (h, without)
 
 without-miss : (s k : ParagraphKey) (ks : List ParagraphKey) → same_key s k ≡ false → without s (k ∷ ks) ≡ k ∷ without s ks

@@ -1,6 +1,6 @@
 -- The modules of this crate's proofs.
 pub mod Keys
-pub mod Kept
 pub mod Uses
+pub mod Kept
 pub mod Drawing
 pub mod Edits

@@ -1,10 +1,12 @@
 -- A view, and what a draw does to it.
 use Rattle.std.specs.Prelude.{◌≡◌, ℕ, List, [], map, take, Result, IfOk, OnOk, OnErr}
+use Rattle.std.specs.Result.{result_map_both}
 use Rattle.bg_types.specs.declared.class.Base.{Base}
 use Rattle.bg_types.specs.declared.fault.Memory.{Memory}
 use Rattle.unicode_tables.specs.Tables.{TableValues}
 use Rattle.paragraphs.specs.Paragraphs.{Paragraph, paragraphs}
 use Rattle.cell_grid.specs.Grids.{DrawnGrid, grid_of}
+use Rattle.cell_grid.specs.Print.{shown}
 use Rattle.view_cache.specs.Keys.{ParagraphKey, paragraph_key}
 use Rattle.view_cache.specs.Uses.{all_used, laid_anew}
 
@@ -42,3 +44,8 @@ pub record IsDrawing (before : KeptView) (width : ℕ) (base : Base) (text : Lis
   -- after Memory the keys are those after a beginning of the uses
   pub begun : OnErr answer ((n : ℕ) × (after.keys ≡ all_used before.room (take n (uses_of before.tables width base text)) before.keys))
   pub uncounted : OnErr answer (after.laid ≡ before.laid)
+
+-- a print of a text: it does to the view what a draw does that answers likewise, and is the print of the grid
+pub record IsPrinting (before : KeptView) (width : ℕ) (base : Base) (text : List ℕ) (answer : Result (List ℕ) Memory) (after : KeptView) : Type 0 where
+  pub drawing : IsDrawing before width base text (result_map_both (λ print. grid_of before.tables width base text) (λ fault. fault) answer) after
+  pub print : IfOk answer (λ print. print ≡ shown before.tables width base text)

@@ -3,26 +3,33 @@
 ghost use Rattle.std.specs.Prelude.{◌≡◌, ◌≤◌, ℕ, [], length, IfOk, OnOk, OnErr};
 ghost use Rattle.lru.specs.LruCache.{lru_cache};
 ghost use Rattle.unicode_tables.specs.Tables.{TableValues};
+ghost use Rattle.std.specs.Rc.{rc_slice_items};
+ghost use Rattle.cell_grid.specs.Grids.{IsDrawable};
+ghost use Rattle.cell_grid.specs.Print.{printed_paragraph};
 ghost use Rattle.cell_grid.specs.Rows.{rows_of};
 ghost use Rattle.view_cache.specs.Keys.{ParagraphKey, paragraph_key};
-ghost use Rattle.view_cache.specs.KeptParagraphs.{AreLaid, nothing_kept, IsNewest, IsUse};
+ghost use Rattle.view_cache.specs.KeptParagraphs.{AreLaid, kept_keys, nothing_kept, IsNewest, IsUse};
 
 use crate::key::Key;
+use crate::laid::{Laid, print_of};
 use bg_types::{Base, Memory};
-use cell_grid::{Lists, Row, rows_with};
+use cell_grid::laws::rows_print_alike;
+use cell_grid::{Lists, Row};
 use lru::LruCache;
 use paragraphs::Para;
 use std::alloc::Global;
 use std::marker::Model;
 use std::num::NonZeroUsize;
+use std::rc::RcSlice;
 use unicode_tables::Tables;
 
 /// The rows of the paragraphs that were used last, counted from each paragraph's start, by the
-/// paragraph's text, the width and the base. It borrows no tables and no text: its owner hands them
-/// in, and the rows stay right as long as the tables are always the same.
+/// paragraph's text, the width and the base, and what they print where a view was asked for that. It borrows
+/// no tables and no text: its owner hands them in, and what is kept stays right as long as the tables are always
+/// the same.
 pub struct KeptRows {
     hash_key: u128,
-    kept: LruCache<Key, Vec<Row>>,
+    kept: LruCache<Key, Laid>,
 }
 
 impl Model for KeptRows {
@@ -113,8 +120,8 @@ impl KeptRows {
         if self.kept.promote(&key) {
             return Ok(false);
         }
-        let rows = rows_with(alloc, tables, width, base, para, lists)?;
-        self.kept.put(key, rows)?;
+        let laid = Laid::of(alloc, tables, width, base, para, lists)?;
+        self.kept.put(key, laid)?;
         Ok(true)
     }
 
@@ -125,14 +132,51 @@ impl KeptRows {
             → result.now ≡ rows_of tables key.width key.base key.text }
     {
         match self.kept.peek_mru() {
-            Some((_, rows)) => rows.as_slice(),
+            Some((_, laid)) => laid.rows.as_slice(),
             None => &[],
         }
+    }
+
+    /// What the rows under the key that was used last print, which is that of this paragraph. It is kept beside them from its
+    /// first call on. After `Memory` nothing has changed.
+    pub(crate) fn newest_print(
+        &mut self,
+        alloc: Global,
+        tables: &Tables,
+        width: u16,
+        base: Base,
+        para: &Para,
+    ) -> Result<RcSlice<u8>, Memory>
+        requires at_least { 2 ≤ width }
+        requires para { IsDrawable para.now }
+        requires newest { IsNewest (paragraph_key para.now.text width base) self.old }
+        requires laid { AreLaid tables.now self.old }
+        ensures print { IfOk result (λ print. rc_slice_items print ≡ printed_paragraph tables.now width base para.now.text) }
+        ensures room { self.new.room ≡ self.old.room }
+        ensures hash_key { self.new.hash_key ≡ self.old.hash_key }
+        ensures keys { kept_keys self.new ≡ kept_keys self.old }
+        ensures laid { AreLaid tables.now self.new }
+    {
+        rows_print_alike();
+        let (_, laid) = self.kept.peek_mru().unwrap();
+        if let Some(print) = &laid.print {
+            return Ok(print.clone()?);
+        }
+        let rows = laid.rows.clone()?;
+        let print = print_of(alloc, tables, para.text(), rows.as_slice())?;
+        let shared = print.clone()?;
+        let key = Key::of(alloc, self.hash_key, para.text(), width, base)?;
+        let printed = Laid {
+            rows,
+            print: Some(shared),
+        };
+        self.kept.put(key, printed)?;
+        Ok(print)
     }
 }
 
 /// An empty cache with room for this many paragraphs.
-fn empty_cache(alloc: Global, room: usize) -> Result<LruCache<Key, Vec<Row>>, Memory>
+fn empty_cache(alloc: Global, room: usize) -> Result<LruCache<Key, Laid>, Memory>
     requires { 1 ≤ room }
     ensures { IfOk result (λ cache. cache ≡ lru_cache [] room) }
 {

@@ -1,21 +1,25 @@
-//! A view that keeps the rows of paragraphs.
+//! A view that keeps the rows of paragraphs, and what they print.
 
 ghost use Rattle.std.specs.Prelude.{◌≡◌, ◌++◌, ◌≤◌, ◌⊎◌, ℕ, not, length, map, take, IfOk, OnOk, OnErr};
 ghost use Rattle.std.specs.List.{All, flat_map};
 ghost use Rattle.cell_grid.specs.Rows.{shifted};
+ghost use Rattle.std.specs.Rc.{rc_slice_items};
 ghost use Rattle.cell_grid.specs.Grids.{IsDrawable, paragraph_rows};
+ghost use Rattle.cell_grid.specs.Print.{printed_paragraph};
 ghost use Rattle.cell_grid.specs.Shifting.{MayShiftRow};
 ghost use Rattle.view_cache.specs.Keys.{paragraph_key};
 ghost use Rattle.view_cache.specs.Uses.{is_kept, used, all_used, laid_anew};
-ghost use Rattle.view_cache.specs.Drawings.{empty_view, paragraph_keys, IsDrawing};
+ghost use Rattle.view_cache.specs.Drawings.{empty_view, paragraph_keys, IsDrawing, IsPrinting};
 
 use crate::kept_rows::KeptRows;
+use crate::print::Print;
 use bg_types::{Base, Memory};
-use cell_grid::laws::rows_may_shift;
+use cell_grid::laws::{paragraphs_print_alike, rows_may_shift};
 use cell_grid::{Grid, Lists, Row};
 use paragraphs::{Para, split};
 use std::alloc::Global;
 use std::marker::Model;
+use std::rc::RcSlice;
 use unicode_tables::Tables;
 
 /// How many paragraphs `View::new` has room for.
@@ -23,7 +27,7 @@ const ROOM: usize = 1_024;
 
 /// Draws texts as `cell_grid::draw` does, and keeps the rows of the paragraphs drawn last,
 /// by the paragraph's text, the width and the base. A kept paragraph is not laid out again:
-/// its rows are copied to where it stands now.
+/// its rows are copied to where it stands now. Where texts are printed, it keeps what a paragraph prints, too.
 #[derive(Drop)]
 pub struct View<'a> {
     alloc: Global,
@@ -92,7 +96,7 @@ impl<'a> View<'a> {
         })
     }
 
-    /// How many paragraphs the last draw that answered Ok laid out anew, or 0 before the first.
+    /// How many paragraphs the last draw or print that answered Ok laid out anew, or 0 before the first.
     #[inline]
     pub fn laid(&self) -> usize
         ensures { result ≡ self.now.laid }
@@ -174,6 +178,87 @@ impl<'a> View<'a> {
             .kept
             .keep_with(self.alloc, self.tables, width, base, para, lists)?;
         push_shifted(self.alloc, self.kept.newest(), para, drawn)?;
+        Ok(laid)
+    }
+
+    // Never inlined, so that a profile names it.
+    /// What `cell_grid::print` writes of the grid that `draw` draws of a text. It does to the view what that draw does, and
+    /// what a kept paragraph prints is not gathered again.
+    /// Cost: O(n), one pass to split the text, and O(1) for each paragraph whose print is kept; memory for what is laid out
+    /// or printed anew.
+    #[inline(never)]
+    pub fn printed(&mut self, width: u16, base: Base, text: &str) -> Result<Print, Memory>
+        requires at_least { 2 ≤ width }
+        requires at_most { width ≤ 500 }
+        requires size { length text.now ≤ 4_000_000 }
+        ensures { IsPrinting self.old width base text.now result self.new }
+    {
+        paragraphs_print_alike();
+        let paragraphs = split(self.alloc, self.tables, text)?;
+        let mut parts = Vec::new(self.alloc);
+        let mut lists = Lists::new(self.alloc);
+        let laid = self.push_prints(width, base, &paragraphs, &mut lists, &mut parts)?;
+        self.laid = laid;
+        Ok(Print::of(parts))
+    }
+
+    /// Uses the keys of paragraphs in order, and appends the print of each. Returns how many were laid out
+    /// anew. After `Memory` a beginning of the keys was used.
+    fn push_prints(
+        &mut self,
+        width: u16,
+        base: Base,
+        paragraphs: &[Para],
+        lists: &mut Lists,
+        parts: &mut Vec<RcSlice<u8>>,
+    ) -> Result<usize, Memory>
+        requires at_least { 2 ≤ width }
+        requires at_most { width ≤ 500 }
+        requires paragraphs { All IsDrawable paragraphs.now }
+        ensures print { OnOk result (flat_map rc_slice_items parts.new.items
+            ≡ flat_map rc_slice_items parts.old.items ++ flat_map (λ p. printed_paragraph self.old.tables width base p.text) paragraphs.now) }
+        ensures laid { IfOk result (λ laid. laid ≡ laid_anew self.old.room (paragraph_keys width base paragraphs.now) self.old.keys) }
+        ensures view { OnOk result (self.new ≡ record self.old { keys = all_used self.old.room (paragraph_keys width base paragraphs.now) self.old.keys }) }
+        ensures begun { OnErr result ((n : ℕ)
+            × (self.new ≡ record self.old { keys = all_used self.old.room (take n (paragraph_keys width base paragraphs.now)) self.old.keys })) }
+    {
+        parts.reserve(paragraphs.len())?;
+        let mut laid = 0;
+        for para in paragraphs {
+            if self.push_print(width, base, para, lists, parts)? {
+                laid += 1;
+            }
+        }
+        Ok(laid)
+    }
+
+    /// Uses the key of a paragraph, and appends its print. Returns whether it was laid out anew. After `Memory`
+    /// the key was used or not.
+    fn push_print(
+        &mut self,
+        width: u16,
+        base: Base,
+        para: &Para,
+        lists: &mut Lists,
+        parts: &mut Vec<RcSlice<u8>>,
+    ) -> Result<bool, Memory>
+        requires at_least { 2 ≤ width }
+        requires at_most { width ≤ 500 }
+        requires para { IsDrawable para.now }
+        ensures print { OnOk result (flat_map rc_slice_items parts.new.items
+            ≡ flat_map rc_slice_items parts.old.items ++ printed_paragraph self.old.tables width base para.now.text) }
+        ensures laid { IfOk result (λ laid. laid ≡ not (is_kept (paragraph_key para.now.text width base) self.old.keys)) }
+        ensures view { OnOk result (self.new ≡ record self.old { keys = used self.old.room (paragraph_key para.now.text width base) self.old.keys }) }
+        ensures err { OnErr result ((self.new ≡ self.old)
+            ⊎ (self.new ≡ record self.old { keys = used self.old.room (paragraph_key para.now.text width base) self.old.keys })) }
+    {
+        let laid = self
+            .kept
+            .keep_with(self.alloc, self.tables, width, base, para, lists)?;
+        let print = self
+            .kept
+            .newest_print(self.alloc, self.tables, width, base, para)?;
+        parts.push(print)?;
         Ok(laid)
     }
 }

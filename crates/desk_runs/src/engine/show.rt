@@ -7,11 +7,10 @@ ghost use Rattle.desk_runs.specs.Shows.{IsShowOutcome};
 
 use super::setting::Setting;
 use bg_types::Sink;
-use cell_grid::print;
 use desk_files::{Desk, RunFault, read_text};
 use view_cache::View;
 
-/// Writes the print of the grid of a desk's text, drawn from a view.
+/// Writes the print of the grid of a desk's text, of what a view keeps.
 pub fn show<S: Sink>(
     setting: &Setting,
     view: &mut View,
@@ -24,7 +23,7 @@ pub fn show<S: Sink>(
     ensures tables { view.new.tables ≡ view.old.tables }
 {
     let text = read_text(desk)?;
-    let grid = view.draw(setting.width, setting.base, text.as_str())?;
-    print(&grid, out)?;
+    let print = view.printed(setting.width, setting.base, text.as_str())?;
+    print.write(out)?;
     Ok(())
 }

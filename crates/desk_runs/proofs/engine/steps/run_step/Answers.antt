@@ -1,5 +1,5 @@
 -- The goals of `run_step` that are answered by hand.
-use Rattle.std.proofs.Common.{◌≡◌, ◌<◌, ◌-◌, ◌∷◌, [], length, get_or, sym, ap, subst, ◌∙◌, arith}
+use Rattle.std.proofs.Common.{◌-◌, ◌∷◌, [], sym, ap, subst, arith}
 use Rattle.std.specs.Prelude.{false, Bool}
 use Rattle.std.specs.Global.{Vec}
 use Rattle.std.proofs.lemmas.List.{length-map}

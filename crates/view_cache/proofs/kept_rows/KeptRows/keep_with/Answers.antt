@@ -1,11 +1,10 @@
 -- A use that finds the key's rows, one that lays them out, and what is left where memory ends.
 use Rattle.std.proofs.Common.{true, false, refl, sym, ap, subst, ◌∙◌}
-use Rattle.cell_grid.specs.Rows.{rows_of}
 use Rattle.cell_grid.proofs.Interface.{on_err}
-use Rattle.view_cache.specs.Keys.{ParagraphKey, paragraph_key}
+use Rattle.view_cache.specs.Keys.{said, paragraph_key}
 use Rattle.view_cache.specs.KeptParagraphs.{AreLaid}
-use Rattle.view_cache.specs.Kept.{IsKept}
-use Rattle.view_cache.proofs.Kept.{kept_of, used-promoted, used-missed, unmoved, use-done, newest-done, laid-done}
+use Rattle.view_cache.specs.Kept.{laid_said, IsKept}
+use Rattle.view_cache.proofs.Kept.{kept_of, laid-right, used-promoted, used-missed, unmoved, use-done, newest-done, laid-done}
 use Rattle.view_cache.proofs.kept_rows.KeptRows.keep_with.Goals as goal
 
 pub invariant_of-self : goal.invariant_of-self
@@ -51,8 +50,8 @@ returns-then-promote-clause-laid c =
     let used = used-promoted tables hash_key kept c.promote.new.self key hashed c.self.invariant c.promote.ensures.entries (sym c.if-promote.ensures.value) in
     laid-done tables hash_key kept c.promote.new.self c.args.self.now c.self.view_is key (paragraph_key c.args.para.now.text c.args.width c.args.base) says hashed c.self.invariant used
 
-pub invariant_of-self-in_err-rows : goal.invariant_of-self-in_err-rows
-invariant_of-self-in_err-rows c =
+pub invariant_of-self-in_err-laid : goal.invariant_of-self-in_err-laid
+invariant_of-self-in_err-laid c =
     let tables = c.args.tables.now in
     let hash_key = c.self.inside.hash_key in
     let kept = c.self.inside.kept in
@@ -61,8 +60,8 @@ invariant_of-self-in_err-rows c =
     let same = unmoved tables hash_key kept kept key hashed c.self.invariant c.promote.new.self c.promote.ensures.entries (sym c.if-promote.ensures.value) in
     subst (IsKept hash_key) (sym same) c.self.invariant
 
-pub returns-in_err-rows-clause-laid : goal.returns-in_err-rows-clause-laid
-returns-in_err-rows-clause-laid c =
+pub returns-in_err-laid-clause-laid : goal.returns-in_err-laid-clause-laid
+returns-in_err-laid-clause-laid c =
     let tables = c.args.tables.now in
     let hash_key = c.self.inside.hash_key in
     let kept = c.self.inside.kept in
@@ -71,15 +70,15 @@ returns-in_err-rows-clause-laid c =
     let same = unmoved tables hash_key kept kept key hashed c.self.invariant c.promote.new.self c.promote.ensures.entries (sym c.if-promote.ensures.value) in
     λ laid. subst (AreLaid tables) (sym (ap (kept_of hash_key) same ∙ c.self.view_is)) laid
 
-pub returns-in_err-rows-clause-err : goal.returns-in_err-rows-clause-err
-returns-in_err-rows-clause-err c =
+pub returns-in_err-laid-clause-err : goal.returns-in_err-laid-clause-err
+returns-in_err-laid-clause-err c =
     let tables = c.args.tables.now in
     let hash_key = c.self.inside.hash_key in
     let kept = c.self.inside.kept in
     let key = c.in_ok-key.key in
     let hashed = c.in_ok-key.ensures.hashed in
     let same = unmoved tables hash_key kept kept key hashed c.self.invariant c.promote.new.self c.promote.ensures.entries (sym c.if-promote.ensures.value) in
-    on_err c.from_residual-in_err-rows.result (ap (kept_of hash_key) same ∙ c.self.view_is)
+    on_err c.from_residual-in_err-laid.result (ap (kept_of hash_key) same ∙ c.self.view_is)
 
 pub invariant_of-self-in_err-put : goal.invariant_of-self-in_err-put
 invariant_of-self-in_err-put c =
@@ -119,8 +118,8 @@ invariant_of-self-2 c =
     let key = c.in_ok-key.key in
     let hashed = c.in_ok-key.ensures.hashed in
     let says = c.in_ok-key.ensures.says ∙ ap (λ t. paragraph_key t c.args.width c.args.base) c.text.ensures in
-    let right = c.in_ok-rows.ensures.rows ∙ ap (λ (k : ParagraphKey). rows_of tables k.width k.base k.text) (sym says) in
-    let used = used-missed tables hash_key kept c.put.new.self key hashed c.self.invariant c.promote.new.self c.in_ok-rows.rows c.promote.ensures.entries (sym c.if-promote.ensures.value) c.in_ok-put.ensures.entries right in
+    let right = laid-right tables (said key) (paragraph_key c.args.para.now.text c.args.width c.args.base) (laid_said c.in_ok-laid.laid) says c.in_ok-laid.ensures in
+    let used = used-missed tables hash_key kept c.put.new.self key hashed c.self.invariant c.promote.new.self c.in_ok-laid.laid c.promote.ensures.entries (sym c.if-promote.ensures.value) c.in_ok-put.ensures.entries right in
     used.kept
 
 pub returns-clause-use_ok : goal.returns-clause-use_ok
@@ -131,8 +130,8 @@ returns-clause-use_ok c =
     let key = c.in_ok-key.key in
     let hashed = c.in_ok-key.ensures.hashed in
     let says = c.in_ok-key.ensures.says ∙ ap (λ t. paragraph_key t c.args.width c.args.base) c.text.ensures in
-    let right = c.in_ok-rows.ensures.rows ∙ ap (λ (k : ParagraphKey). rows_of tables k.width k.base k.text) (sym says) in
-    let used = used-missed tables hash_key kept c.put.new.self key hashed c.self.invariant c.promote.new.self c.in_ok-rows.rows c.promote.ensures.entries (sym c.if-promote.ensures.value) c.in_ok-put.ensures.entries right in
+    let right = laid-right tables (said key) (paragraph_key c.args.para.now.text c.args.width c.args.base) (laid_said c.in_ok-laid.laid) says c.in_ok-laid.ensures in
+    let used = used-missed tables hash_key kept c.put.new.self key hashed c.self.invariant c.promote.new.self c.in_ok-laid.laid c.promote.ensures.entries (sym c.if-promote.ensures.value) c.in_ok-put.ensures.entries right in
     use-done tables hash_key kept c.put.new.self c.args.self.now c.self.view_is key (paragraph_key c.args.para.now.text c.args.width c.args.base) says hashed c.self.invariant used false true c.if-promote.ensures.value refl
 
 pub returns-clause-newest : goal.returns-clause-newest
@@ -143,8 +142,8 @@ returns-clause-newest c =
     let key = c.in_ok-key.key in
     let hashed = c.in_ok-key.ensures.hashed in
     let says = c.in_ok-key.ensures.says ∙ ap (λ t. paragraph_key t c.args.width c.args.base) c.text.ensures in
-    let right = c.in_ok-rows.ensures.rows ∙ ap (λ (k : ParagraphKey). rows_of tables k.width k.base k.text) (sym says) in
-    let used = used-missed tables hash_key kept c.put.new.self key hashed c.self.invariant c.promote.new.self c.in_ok-rows.rows c.promote.ensures.entries (sym c.if-promote.ensures.value) c.in_ok-put.ensures.entries right in
+    let right = laid-right tables (said key) (paragraph_key c.args.para.now.text c.args.width c.args.base) (laid_said c.in_ok-laid.laid) says c.in_ok-laid.ensures in
+    let used = used-missed tables hash_key kept c.put.new.self key hashed c.self.invariant c.promote.new.self c.in_ok-laid.laid c.promote.ensures.entries (sym c.if-promote.ensures.value) c.in_ok-put.ensures.entries right in
     newest-done tables hash_key kept c.put.new.self c.args.self.now c.self.view_is key (paragraph_key c.args.para.now.text c.args.width c.args.base) says hashed c.self.invariant used
 
 pub returns-clause-laid : goal.returns-clause-laid
@@ -155,6 +154,6 @@ returns-clause-laid c =
     let key = c.in_ok-key.key in
     let hashed = c.in_ok-key.ensures.hashed in
     let says = c.in_ok-key.ensures.says ∙ ap (λ t. paragraph_key t c.args.width c.args.base) c.text.ensures in
-    let right = c.in_ok-rows.ensures.rows ∙ ap (λ (k : ParagraphKey). rows_of tables k.width k.base k.text) (sym says) in
-    let used = used-missed tables hash_key kept c.put.new.self key hashed c.self.invariant c.promote.new.self c.in_ok-rows.rows c.promote.ensures.entries (sym c.if-promote.ensures.value) c.in_ok-put.ensures.entries right in
+    let right = laid-right tables (said key) (paragraph_key c.args.para.now.text c.args.width c.args.base) (laid_said c.in_ok-laid.laid) says c.in_ok-laid.ensures in
+    let used = used-missed tables hash_key kept c.put.new.self key hashed c.self.invariant c.promote.new.self c.in_ok-laid.laid c.promote.ensures.entries (sym c.if-promote.ensures.value) c.in_ok-put.ensures.entries right in
     laid-done tables hash_key kept c.put.new.self c.args.self.now c.self.view_is key (paragraph_key c.args.para.now.text c.args.width c.args.base) says hashed c.self.invariant used

@@ -5,8 +5,8 @@ use Rattle.view_cache.proofs.kept_rows.KeptRows.newest.Goals as goal
 
 pub returns-in-Some : goal.returns-in-Some
 returns-in-Some c = λ tables key laid newest.
-    c.as_slice.ensures.value
-    ∙ newest-laid c.self.inside.hash_key c.self.inside.kept c.args.self.now c.self.view_is tables key laid newest (c.in-Some.field-0-0.now, c.in-Some.rows.now) (sym c.in-Some.ensures)
+    let is = newest-laid c.self.inside.hash_key c.self.inside.kept c.args.self.now c.self.view_is tables key laid newest (c.in-Some.field-0-0.now, c.in-Some.laid.now) (sym c.in-Some.ensures) in
+    c.as_slice.ensures.value ∙ is.rows
 
 pub returns-in-None : goal.returns-in-None
 returns-in-None c = λ tables key laid newest.
