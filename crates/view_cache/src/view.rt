@@ -223,13 +223,13 @@ impl<'a> View<'a> {
             × (self.new ≡ record self.old { keys = all_used self.old.room (take n (paragraph_keys width base paragraphs.now)) self.old.keys })) }
     {
         parts.reserve(paragraphs.len())?;
-        let mut laid = 0;
+        let mut anew = 0;
         for para in paragraphs {
             if self.push_print(width, base, para, lists, parts)? {
-                laid += 1;
+                anew += 1;
             }
         }
-        Ok(laid)
+        Ok(anew)
     }
 
     /// Uses the key of a paragraph, and appends its print. Returns whether it was laid out anew. After `Memory`

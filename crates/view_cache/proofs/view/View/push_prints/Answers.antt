@@ -52,17 +52,17 @@ loop-para-preserved c =
         print = print;
         view = view;
         laid =
-            counted-then c.args.width c.args.base before items i p p c.loop-para-test.true c.para-item.is c.loop-para.self h.view c.loop-para.laid c.if-branch.laid h.laid c.in_ok-push_print.field-0
-            c.in_ok-push_print.ensures.laid w.if-branch.true w.laid-is;
-        most = most-then c.loop-para.laid c.if-branch.laid i h.most w.laid-is;
+            counted-then c.args.width c.args.base before items i p p c.loop-para-test.true c.para-item.is c.loop-para.self h.view c.loop-para.anew c.if-branch.anew h.laid c.in_ok-push_print.field-0
+            c.in_ok-push_print.ensures.laid w.if-branch.true w.anew-is;
+        most = most-then c.loop-para.anew c.if-branch.anew i h.most w.anew-is;
       }
       | else-branch w ↦ record {
         print = print;
         view = view;
         laid =
-            counted-else c.args.width c.args.base before items i p p c.loop-para-test.true c.para-item.is c.loop-para.self h.view c.loop-para.laid c.if-branch.laid h.laid c.in_ok-push_print.field-0
-            c.in_ok-push_print.ensures.laid w.if-branch.false w.laid-is;
-        most = most-else c.loop-para.laid c.if-branch.laid i h.most w.laid-is;
+            counted-else c.args.width c.args.base before items i p p c.loop-para-test.true c.para-item.is c.loop-para.self h.view c.loop-para.anew c.if-branch.anew h.laid c.in_ok-push_print.field-0
+            c.in_ok-push_print.ensures.laid w.if-branch.false w.anew-is;
+        most = most-else c.loop-para.anew c.if-branch.anew i h.most w.anew-is;
       }
     ]
 

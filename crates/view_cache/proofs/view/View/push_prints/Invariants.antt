@@ -8,6 +8,6 @@ abbrev pub invariant-loop-para : goal.invariant-loop-para
 invariant-loop-para l = record {
   print : flat_map rc_slice_items l.parts.items ≡ flat_map rc_slice_items l.fn.parts.items ++ print_so_far l.width l.base l.fn.self (take l.para-index l.paragraphs);
   view : l.self ≡ so_far l.width l.base l.fn.self (take l.para-index l.paragraphs);
-  laid : l.laid ≡ laid_so_far l.width l.base l.fn.self (take l.para-index l.paragraphs);
-  most : l.laid ≤ l.para-index;
+  laid : l.anew ≡ laid_so_far l.width l.base l.fn.self (take l.para-index l.paragraphs);
+  most : l.anew ≤ l.para-index;
 }
