@@ -10,7 +10,7 @@ use bg_types::Sink;
 use desk_files::{Desk, RunFault, read_text};
 use view_cache::View;
 
-/// Writes the print of the grid of a desk's text, of what a view keeps.
+/// Writes the print of the grid of a desk's text, which a view makes of what it keeps.
 pub fn show<S: Sink>(
     setting: &Setting,
     view: &mut View,
