@@ -226,7 +226,7 @@ module _ (hash_key : ℕ) (c : Cache) (now : KeptParagraphs) (is : kept_of hash_
 abbrev pub view_of : TableValues → KeptParagraphs → (laid : ℕ) → KeptView
 view_of tables kept laid = record { tables = tables; room = kept.room; hash_key = kept.hash_key; keys = kept_keys kept; laid = laid }
 
--- no other room, key of hashes or keys make no other view
+-- kept rows with the same room, key of hashes and keys are seen as one view
 pub view-same : (tables : TableValues) (kept later : KeptParagraphs) (laid : ℕ) → later.room ≡ kept.room → later.hash_key ≡ kept.hash_key → kept_keys later ≡ kept_keys kept
     → view_of tables later laid ≡ view_of tables kept laid
 view-same tables kept later laid room hash_key keys =
