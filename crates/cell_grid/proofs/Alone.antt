@@ -48,19 +48,20 @@ same-cond false x = refl
 
 -- one whose kept span is that of an entry
 abbrev pub alone : KeptSpan → Entry → ClusterRun
-alone s e = record { span = s; further = 0; level = e.level; columns = e.columns }
+alone s e = record { span = s; level = e.level; columns = e.columns }
 
-module _ (s : KeptSpan) (e : Entry) (is : span_kept s ≡ e.span) where
-  pub alone-entries : run_entries e.column (alone s e) ≡ e ∷ []
-  alone-entries =
-      ap (λ c. entry_of e.column (alone s e) c 0 ∷ []) (same-cond (is_odd e.level) 0)
-      ∙ ap (λ x. x ∷ []) (entry-is (span_after 0 (span_kept s)) (e.column + 0 * e.columns) e.level e.columns e (none-after (span_kept s) ∙ is) (none-more e.column e.columns) refl refl)
+-- with none behind it
+abbrev lone : KeptSpan → KeptSpan
+lone s = record s { further = 0 }
 
-  pub alone-columns : run_columns (alone s e) ≡ e.columns
-  alone-columns = omega arith
+module _ (s : KeptSpan) (e : Entry) (is : span_kept (lone s) ≡ e.span) where
+  lone-entries : run_entries e.column (alone (lone s) e) ≡ e ∷ []
+  lone-entries =
+      ap (λ c. entry_of e.column (alone (lone s) e) c 0 ∷ []) (same-cond (is_odd e.level) 0)
+      ∙ ap (λ x. x ∷ []) (entry-is (span_after 0 (span_kept (lone s))) (e.column + 0 * e.columns) e.level e.columns e (none-after (span_kept (lone s)) ∙ is) (none-more e.column e.columns) refl refl)
 
-  pub alone-reach : IsOf32Bits e.span → IsInReach (alone s e)
-  alone-reach bits =
+  lone-reach : IsOf32Bits e.span → IsInReach (alone (lone s) e)
+  lone-reach bits =
       subst (λ (t : Span). StaysInReach (0 * byte_count t) (0 * point_count t) t) (sym is)
       (record {
         first_byte = subst (λ k. k < 2 ^ 32) (sym (none-more e.span.first_byte (byte_count e.span))) bits.first_byte;
@@ -68,3 +69,19 @@ module _ (s : KeptSpan) (e : Entry) (is : span_kept s ≡ e.span) where
         first_place = subst (λ k. k < 2 ^ 32) (sym (none-more e.span.first_place (point_count e.span))) bits.first_place;
         end_place = subst (λ k. k < 2 ^ 32) (sym (none-more e.span.end_place (point_count e.span))) bits.end_place;
       })
+
+module _ (s : KeptSpan) (e : Entry) (is : span_kept s ≡ e.span) (one : s.further ≡ 0) where
+  same : s ≡ lone s
+  same = ap (λ n. record s { further = n }) one
+
+  kept : span_kept (lone s) ≡ e.span
+  kept = subst (λ (t : KeptSpan). span_kept t ≡ e.span) same is
+
+  pub alone-entries : run_entries e.column (alone s e) ≡ e ∷ []
+  alone-entries = subst (λ (t : KeptSpan). run_entries e.column (alone t e) ≡ e ∷ []) (sym same) (lone-entries s e kept)
+
+  pub alone-columns : run_columns (alone s e) ≡ e.columns
+  alone-columns = let none : (0 + 1) * e.columns ≡ e.columns = omega arith in ap (λ n. (n + 1) * e.columns) one ∙ none
+
+  pub alone-reach : IsOf32Bits e.span → IsInReach (alone s e)
+  alone-reach bits = subst (λ (t : KeptSpan). IsInReach (alone t e)) (sym same) (lone-reach s e kept bits)

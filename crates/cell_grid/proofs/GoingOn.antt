@@ -50,15 +50,15 @@ turned-next true f k s lt =
 turned-next false f k s lt = same-self (span_behind (span_after k s)) (span_after (k + 1) s) (after-next k s)
 
 module _ (column : ℕ) (r : ClusterRun) where
-  goes-on : (k : ℕ) → k < r.further → goes_on (run_entry column r k) (run_entry column r (k + 1)) ≡ true
+  goes-on : (k : ℕ) → k < r.span.further → goes_on (run_entry column r k) (run_entry column r (k + 1)) ≡ true
   goes-on k lt =
       let behind = cond (is_odd r.level) (same_span (span_behind (span_after (cluster_from_left r (k + 1)) (run_span r))) (span_after (cluster_from_left r k) (run_span r)))
       (same_span (span_behind (span_after (cluster_from_left r k) (run_span r))) (span_after (cluster_from_left r (k + 1)) (run_span r))) in
       ap (λ x. x && (r.columns == r.columns) && behind) (eq-eqb r.level r.level refl)
       ∙ ap (λ x. x && behind) (eq-eqb r.columns r.columns refl)
-      ∙ turned-next (is_odd r.level) r.further k (run_span r) lt
+      ∙ turned-next (is_odd r.level) r.span.further k (run_span r) lt
 
-  none-from : (from n : ℕ) → from + n ≤ r.further → runs_behind (run_entry column r from) (map (run_entry column r) (range_with_len (from + 1) n)) ≡ 0
+  none-from : (from n : ℕ) → from + n ≤ r.span.further → runs_behind (run_entry column r from) (map (run_entry column r) (range_with_len (from + 1) n)) ≡ 0
   none-from from zero le = refl
   none-from from (suc n) le =
       let one = ap (λ b. cond {A = ℕ} b 0 1) (goes-on from (omega arith)) in
@@ -67,22 +67,22 @@ module _ (column : ℕ) (r : ClusterRun) where
 
   -- the first of its entries, and those behind it, which begin no run
   abbrev pub entries_behind : List Entry
-  entries_behind = map (run_entry column r) (range_with_len 1 r.further)
+  entries_behind = map (run_entry column r) (range_with_len 1 r.span.further)
 
   pub entries-first : run_entries column r ≡ run_entry column r 0 ∷ entries_behind
-  entries-first = let e : r.further + 1 ≡ suc r.further = omega arith in ap (λ n. map (run_entry column r) (range_with_len 0 n)) e
+  entries-first = let e : r.span.further + 1 ≡ suc r.span.further = omega arith in ap (λ n. map (run_entry column r) (range_with_len 0 n)) e
 
   pub none-behind : runs_behind (run_entry column r 0) entries_behind ≡ 0
-  none-behind = none-from 0 r.further (omega arith)
+  none-behind = none-from 0 r.span.further (omega arith)
 
-  pub entries-last : run_entries column r ≡ map (run_entry column r) (range_with_len 0 r.further) ++ run_entry column r r.further ∷ []
-  entries-last = map-range_with_len_more (run_entry column r) 0 r.further r.further (omega arith)
+  pub entries-last : run_entries column r ≡ map (run_entry column r) (range_with_len 0 r.span.further) ++ run_entry column r r.span.further ∷ []
+  entries-last = map-range_with_len_more (run_entry column r) 0 r.span.further r.span.further (omega arith)
 
 -- ---- the last entry of a run, and the first of another
 
 module _ (l r : ClusterRun) (column next : ℕ) where
   abbrev left : Span
-  left = span_after (cluster_from_left l l.further) (run_span l)
+  left = span_after (cluster_from_left l l.span.further) (run_span l)
 
   abbrev right : Span
   right = span_after (cluster_from_left r 0) (run_span r)
@@ -91,7 +91,7 @@ module _ (l r : ClusterRun) (column next : ℕ) where
   behind = cond (is_odd l.level) (same_span (span_behind right) left) (same_span (span_behind left) right)
 
   abbrev go_on : Bool
-  go_on = goes_on (run_entry column l l.further) (run_entry next r 0)
+  go_on = goes_on (run_entry column l l.span.further) (run_entry next r 0)
 
   pub other-level : (l.level ≡ r.level → ⊥) → go_on ≡ false
   other-level ne = and_left ((l.level == r.level) && (l.columns == r.columns)) behind (and_left (l.level == r.level) (l.columns == r.columns) (ne_eqb l.level r.level ne))
@@ -103,25 +103,25 @@ module _ (l r : ClusterRun) (column next : ℕ) where
   alike level columns =
       ap (λ x. x && (l.columns == r.columns) && behind) (eq-eqb l.level r.level level) ∙ ap (λ x. x && behind) (eq-eqb l.columns r.columns columns)
 
-  pub goes-odd : l.level ≡ r.level → l.columns ≡ r.columns → is_odd l.level ≡ true → go_on ≡ same_span (span_behind (span_after r.further (run_span r))) (run_span l)
+  pub goes-odd : l.level ≡ r.level → l.columns ≡ r.columns → is_odd l.level ≡ true → go_on ≡ same_span (span_behind (span_after r.span.further (run_span r))) (run_span l)
   goes-odd level columns odd =
-      let none : l.further - l.further ≡ 0 = omega arith in
-      let all : r.further - 0 ≡ r.further = omega arith in
-      let last = cond-true (is_odd l.level) (l.further - l.further) l.further odd ∙ none in
-      let first = cond-true (is_odd r.level) (r.further - 0) 0 (sym (ap is_odd level) ∙ odd) ∙ all in
+      let none : l.span.further - l.span.further ≡ 0 = omega arith in
+      let all : r.span.further - 0 ≡ r.span.further = omega arith in
+      let last = cond-true (is_odd l.level) (l.span.further - l.span.further) l.span.further odd ∙ none in
+      let first = cond-true (is_odd r.level) (r.span.further - 0) 0 (sym (ap is_odd level) ∙ odd) ∙ all in
       alike level columns
       ∙ cond-true (is_odd l.level) (same_span (span_behind right) left) (same_span (span_behind left) right) odd
       ∙ ap (λ k. same_span (span_behind (span_after k (run_span r))) left) first
-      ∙ ap (same_span (span_behind (span_after r.further (run_span r)))) (ap (λ k. span_after k (run_span l)) last ∙ none-after (run_span l))
+      ∙ ap (same_span (span_behind (span_after r.span.further (run_span r)))) (ap (λ k. span_after k (run_span l)) last ∙ none-after (run_span l))
 
-  pub goes-even : l.level ≡ r.level → l.columns ≡ r.columns → is_odd l.level ≡ false → go_on ≡ same_span (span_behind (span_after l.further (run_span l))) (run_span r)
+  pub goes-even : l.level ≡ r.level → l.columns ≡ r.columns → is_odd l.level ≡ false → go_on ≡ same_span (span_behind (span_after l.span.further (run_span l))) (run_span r)
   goes-even level columns even =
-      let last = cond-false (is_odd l.level) (l.further - l.further) l.further even in
-      let first = cond-false (is_odd r.level) (r.further - 0) 0 (sym (ap is_odd level) ∙ even) in
+      let last = cond-false (is_odd l.level) (l.span.further - l.span.further) l.span.further even in
+      let first = cond-false (is_odd r.level) (r.span.further - 0) 0 (sym (ap is_odd level) ∙ even) in
       alike level columns
       ∙ cond-false (is_odd l.level) (same_span (span_behind right) left) (same_span (span_behind left) right) even
       ∙ ap (λ k. same_span (span_behind (span_after k (run_span l))) right) last
-      ∙ ap (same_span (span_behind (span_after l.further (run_span l)))) (ap (λ k. span_after k (run_span r)) first ∙ none-after (run_span r))
+      ∙ ap (same_span (span_behind (span_after l.span.further (run_span l)))) (ap (λ k. span_after k (run_span r)) first ∙ none-after (run_span r))
 
 -- ---- entries, and more behind their last
 
@@ -169,17 +169,17 @@ runs-push : (column : ℕ) (front : List ClusterRun) (r : ClusterRun) → runs_e
 runs-push column front r =
     runs_entries-append column front (r ∷ []) ∙ ap (λ l. runs_entries column front ++ l) (append-nil (run_entries (column + runs_columns front) r))
 
-count-next : (column : ℕ) (front : List ClusterRun) (l r : ClusterRun) (b : Bool) → ((at next : ℕ) → b ≡ goes_on (run_entry at l l.further) (run_entry next r 0))
+count-next : (column : ℕ) (front : List ClusterRun) (l r : ClusterRun) (b : Bool) → ((at next : ℕ) → b ≡ goes_on (run_entry at l l.span.further) (run_entry next r 0))
     → run_count (runs_entries column ((front ++ l ∷ []) ++ r ∷ [])) ≡ run_count (runs_entries column (front ++ l ∷ [])) + cond b 0 1
 count-next column front l r b is =
     let at = column + runs_columns front in
     let next = column + runs_columns (front ++ l ∷ []) in
-    let xs = runs_entries column front ++ map (run_entry at l) (range_with_len 0 l.further) in
-    let x = run_entry at l l.further in
+    let xs = runs_entries column front ++ map (run_entry at l) (range_with_len 0 l.span.further) in
+    let x = run_entry at l l.span.further in
     let f = run_entry next r 0 in
     let left : runs_entries column (front ++ l ∷ []) ≡ xs ++ x ∷ [] =
     runs-push column front l ∙ ap (λ es. runs_entries column front ++ es) (entries-last at l)
-    ∙ sym (append_assoc (runs_entries column front) (map (run_entry at l) (range_with_len 0 l.further)) (x ∷ [])) in
+    ∙ sym (append_assoc (runs_entries column front) (map (run_entry at l) (range_with_len 0 l.span.further)) (x ∷ [])) in
     let all : runs_entries column ((front ++ l ∷ []) ++ r ∷ []) ≡ xs ++ x ∷ f ∷ entries_behind next r =
     runs-push column (front ++ l ∷ []) r
     ∙ ap (λ es. es ++ run_entries next r) left
@@ -201,7 +201,7 @@ count-to-one column [] some = absurd (omega arith)
 count-to-one column (r ∷ later) some = count-one column r
 
 pub count-to-next : (column : ℕ) (runs : List ClusterRun) (n k : ℕ) (l r d : ClusterRun) (b : Bool) → k + 1 ≡ n → n < length runs → l ≡ get_or runs k d → r ≡ get_or runs n d
-    → ((at next : ℕ) → b ≡ goes_on (run_entry at l l.further) (run_entry next r 0))
+    → ((at next : ℕ) → b ≡ goes_on (run_entry at l l.span.further) (run_entry next r 0))
     → run_count (runs_entries column (take (n + 1) runs)) ≡ run_count (runs_entries column (take n runs)) + cond b 0 1
 count-to-next column runs n k l r d b next lt left right is =
     let before : take n runs ≡ take k runs ++ l ∷ [] = sym (ap (λ m. take m runs) next) ∙ take-next runs k l d (omega arith) left in

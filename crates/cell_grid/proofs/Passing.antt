@@ -18,7 +18,7 @@ none-left column passed [] none h = let no = h.within in let e : passed ≡ 0 = 
 none-left column passed (r ∷ later) none h = absurd (omega arith)
 
 module _ (column passed : ℕ) (runs : List ClusterRun) (r d : ClusterRun) (some : 0 < length runs) (is : r ≡ get_or runs 0 d) (h : AreLeft column passed runs) where
-  pub passed-within : passed ≤ r.further
+  pub passed-within : passed ≤ r.span.further
   passed-within = let e = first_further-is runs r d some is in let le = h.within in omega arith
 
   pub fits-first : column + run_columns r < 2 ^ 16
@@ -28,7 +28,7 @@ module _ (column passed : ℕ) (runs : List ClusterRun) (r d : ClusterRun) (some
   next-left = let le = passed-within in drop-get (runs_entries column runs) passed (run_entry column r passed) (rest-first column runs 0 r d some is passed (omega arith))
 
   -- one more of the first run is passed
-  module _ (within : passed < r.further) where
+  module _ (within : passed < r.span.further) where
     pub stays-left : AreLeft column (passed + 1) runs
     stays-left = let e = first_further-is runs r d some is in record { reach = h.reach; fits = h.fits; within = omega arith }
 
@@ -36,7 +36,7 @@ module _ (column passed : ℕ) (runs : List ClusterRun) (r d : ClusterRun) (some
     one-passed e this = next-left ∙ ap (λ x. x ∷ drop (passed + 1) (runs_entries column runs)) (sym this)
 
   -- the first run is passed
-  module _ (last : r.further ≤ passed) where
+  module _ (last : r.span.further ≤ passed) where
     pub next-run : (next : ℕ) (later : List ClusterRun) → next ≡ column + run_columns r → later ≡ drop 1 runs → AreLeft next 0 later
     next-run next later at others =
         let all = rest-columns column runs 0 r d some is in

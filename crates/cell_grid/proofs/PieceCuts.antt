@@ -142,8 +142,8 @@ span-alike part k =
 abbrev pub first_of : ShapeRun → Span
 first_of part = span_of part.first_byte (part.first_byte + part.bytes) part.first_place (part.first_place + part.points)
 
-abbrev pub piece_of : KeptSpan → (further level columns : ℕ) → ClusterRun
-piece_of s further level columns = record { span = s; further = further; level = level; columns = columns }
+abbrev pub piece_of : KeptSpan → (level columns : ℕ) → ClusterRun
+piece_of s level columns = record { span = s; level = level; columns = columns }
 
 pub reach-one : (first size further count : ℕ) → further + 1 ≤ count → first + count * size ≤ 4_000_000 → first + size + further * size ≤ 4_000_000
 reach-one first size further count le within =
@@ -151,43 +151,43 @@ reach-one first size further count le within =
     let all = ap (λ k. k * size) c in
     omega arith
 
-module _ (run : ShapeRun) (levels : List ℕ) (room : ℕ) (within : IsWithin run) (level further most alike : ℕ) (f : Fitting)
-    (few : alike ≤ most) (most_within : most ≤ run.count) (fit : AreFitting alike run.columns room f) (so : further + 1 ≡ f.count)
+module _ (run : ShapeRun) (levels : List ℕ) (room : ℕ) (within : IsWithin run) (level most alike : ℕ) (f : Fitting)
+    (few : alike ≤ most) (most_within : most ≤ run.count) (fit : AreFitting alike run.columns room f)
     (same : (k : ℕ) → k < alike → get_or levels (k * run.points) 0 ≡ level)
-    (s : KeptSpan) (at : span_kept s ≡ first_of run) where
-  n-most : further + 1 ≤ most
+    (s : KeptSpan) (at : span_kept s ≡ first_of run) (so : s.further + 1 ≡ f.count) where
+  n-most : s.further + 1 ≤ most
   n-most = let m = fit.most in omega arith
 
-  piece-levels : (later : List ℕ) → group_firsts (replicate (further + 1) run.points ++ later) levels ≡ replicate (further + 1) level ++ group_firsts later (drop ((further + 1) * run.points) levels)
+  piece-levels : (later : List ℕ) → group_firsts (replicate (s.further + 1) run.points ++ later) levels ≡ replicate (s.further + 1) level ++ group_firsts later (drop ((s.further + 1) * run.points) levels)
   piece-levels later =
       let m = fit.most in
-      firsts-append (replicate (further + 1) run.points) later levels
-      ∙ ap (λ l. l ++ group_firsts later (drop (sum (replicate (further + 1) run.points)) levels))
-      (firsts-alike (further + 1) run.points level levels (λ k lt. same k (omega arith)))
-      ∙ ap (λ k. replicate (further + 1) level ++ group_firsts later (drop k levels)) (sum-alike (further + 1) run.points)
+      firsts-append (replicate (s.further + 1) run.points) later levels
+      ∙ ap (λ l. l ++ group_firsts later (drop (sum (replicate (s.further + 1) run.points)) levels))
+      (firsts-alike (s.further + 1) run.points level levels (λ k lt. same k (omega arith)))
+      ∙ ap (λ k. replicate (s.further + 1) level ++ group_firsts later (drop k levels)) (sum-alike (s.further + 1) run.points)
 
-  piece-columns : (later : List ℕ) → hung room (replicate (further + 1) run.columns ++ later) ≡ replicate (further + 1) f.columns ++ hung f.room later
+  piece-columns : (later : List ℕ) → hung room (replicate (s.further + 1) run.columns ++ later) ≡ replicate (s.further + 1) f.columns ++ hung f.room later
   piece-columns later =
       ap (λ n. hung room (replicate n run.columns ++ later)) so ∙ fit.hung later ∙ ap (λ n. replicate n f.columns ++ hung f.room later) (sym so)
 
-  piece-reach : IsInReach (piece_of s further level f.columns)
+  piece-reach : IsInReach (piece_of s level f.columns)
   piece-reach =
       let m = n-most in
       let b : run.first_byte + run.bytes - run.first_byte ≡ run.bytes = omega arith in
       let p : run.first_place + run.points - run.first_place ≡ run.points = omega arith in
-      let eb = ap (λ k. further * k) b in
-      let ep = ap (λ k. further * k) p in
-      let wb = reach-one run.first_byte run.bytes further run.count (omega arith) within.bytes in
-      let wp = reach-one run.first_place run.points further run.count (omega arith) within.places in
-      subst (λ (t : Span). StaysInReach (further * byte_count t) (further * point_count t) t) (sym at)
+      let eb = ap (λ k. s.further * k) b in
+      let ep = ap (λ k. s.further * k) p in
+      let wb = reach-one run.first_byte run.bytes s.further run.count (omega arith) within.bytes in
+      let wp = reach-one run.first_place run.points s.further run.count (omega arith) within.places in
+      subst (λ (t : Span). StaysInReach (s.further * byte_count t) (s.further * point_count t) t) (sym at)
       (record { first_byte = omega arith; end_byte = omega arith; first_place = omega arith; end_place = omega arith })
 
-  pub first-piece : IsFirstPiece run most levels room (piece_of s further level f.columns) f.room
+  pub first-piece : IsFirstPiece run most levels room (piece_of s level f.columns) f.room
   first-piece = record {
     within = n-most;
     spans =
-        ap (λ t. map (λ k. span_after k t) (range_with_len 0 (further + 1))) at
-        ∙ sym (map-range-same (span_in run) (λ k. span_after k (first_of run)) 0 (further + 1) (λ k low high. span-alike run k));
+        ap (λ t. map (λ k. span_after k t) (range_with_len 0 (s.further + 1))) at
+        ∙ sym (map-range-same (span_in run) (λ k. span_after k (first_of run)) 0 (s.further + 1) (λ k low high. span-alike run k));
     levels_alike = piece-levels;
     columns = piece-columns;
     reach = piece-reach;

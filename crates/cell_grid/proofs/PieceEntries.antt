@@ -153,15 +153,15 @@ module _ (ps : List ClusterRun) (k : ℕ) (lt : k < length ps) where
       ap (λ (p : LevelPiece). cond (is_odd p.level) (reverse (range_with_len (count_of (take k (level_pieces ps))) p.count)) (range_with_len (count_of (take k (level_pieces ps))) p.count)) same
       ∙ ap (λ b. cond (is_odd r.level) (reverse (range_with_len b (cluster_count r))) (range_with_len b (cluster_count r))) (before-is k ps)
       ∙ elim (is_odd r.level) as (λ o. cond o (reverse (range_with_len (counts (take k ps)) (cluster_count r))) (range_with_len (counts (take k ps)) (cluster_count r))
-      ≡ map (λ i. counts (take k ps) + cond o (r.further - i) i) (range_with_len 0 (cluster_count r))) [
-        | true ↦ falling (counts (take k ps)) r.further
+      ≡ map (λ i. counts (take k ps) + cond o (r.span.further - i) i) (range_with_len 0 (cluster_count r))) [
+        | true ↦ falling (counts (take k ps)) r.span.further
         | false ↦ (let e : counts (take k ps) ≡ counts (take k ps) + 0 = omega arith in ap (λ b. range_with_len b (cluster_count r)) e ∙ rising (counts (take k ps)) 0 (cluster_count r))
       ]
 
   -- its clusters among all
   from-left : (i : ℕ) → i < cluster_count its → cluster_from_left its i < cluster_count its
   unfolding its
-  from-left i within = elim (is_odd (piece_at ps k).level) as (λ o. cond o ((piece_at ps k).further - i) i < cluster_count (piece_at ps k)) [ true ↦ omega arith | false ↦ omega arith ]
+  from-left i within = elim (is_odd (piece_at ps k).level) as (λ o. cond o ((piece_at ps k).span.further - i) i < cluster_count (piece_at ps k)) [ true ↦ omega arith | false ↦ omega arith ]
 
   its-span : (j : ℕ) → j < cluster_count its → get_or (spans_of ps) (first + j) (extent []) ≡ span_after j (run_span its)
   unfolding its first

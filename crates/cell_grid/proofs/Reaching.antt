@@ -20,7 +20,7 @@ use Rattle.cell_grid.proofs.Standing.{span_of}
 -- ---- a cluster within the run
 
 -- where the last cluster is in reach each is
-pub reaches : (r : ClusterRun) (number : ℕ) → number ≤ r.further → IsInReach r → StaysInReach (number * byte_count (run_span r)) (number * point_count (run_span r)) (run_span r)
+pub reaches : (r : ClusterRun) (number : ℕ) → number ≤ r.span.further → IsInReach r → StaysInReach (number * byte_count (run_span r)) (number * point_count (run_span r)) (run_span r)
 reaches r number le reach =
     let bytes = mul-le-mul_right (byte_count (run_span r)) le in
     let points = mul-le-mul_right (point_count (run_span r)) le in
@@ -31,7 +31,7 @@ reaches r number le reach =
     record { first_byte = omega arith; end_byte = omega arith; first_place = omega arith; end_place = omega arith }
 
 -- an entry within the run begins within its columns
-pub columns-within : (r : ClusterRun) (number : ℕ) → number ≤ r.further → number * r.columns + r.columns ≤ run_columns r
+pub columns-within : (r : ClusterRun) (number : ℕ) → number ≤ r.span.further → number * r.columns + r.columns ≤ run_columns r
 columns-within r number le = let all = mul-le-mul_right r.columns le in omega arith
 
 turned : (b : Bool) (f c : ℕ) → c ≤ f → cond b (f - cond b (f - c) c) (cond b (f - c) c) ≡ c
@@ -42,25 +42,25 @@ turned-below : (b : Bool) (f c : ℕ) → c ≤ f → cond b (f - c) c ≤ f
 turned-below true f c le = omega arith
 turned-below false f c le = le
 
-pub from_left-within : (r : ClusterRun) (number : ℕ) → number ≤ r.further → cluster_from_left r number ≤ r.further
-from_left-within r number le = turned-below (is_odd r.level) r.further number le
+pub from_left-within : (r : ClusterRun) (number : ℕ) → number ≤ r.span.further → cluster_from_left r number ≤ r.span.further
+from_left-within r number le = turned-below (is_odd r.level) r.span.further number le
 
 module _ (P : Span → Type 0) where
   -- what holds of each entry holds of each cluster
-  pub clusters-hold : (column : ℕ) (r : ClusterRun) → All (λ (e : Entry). P e.span) (run_entries column r) → (number : ℕ) → number ≤ r.further → P (span_after number (run_span r))
+  pub clusters-hold : (column : ℕ) (r : ClusterRun) → All (λ (e : Entry). P e.span) (run_entries column r) → (number : ℕ) → number ≤ r.span.further → P (span_after number (run_span r))
   clusters-hold column r all number le =
       let i = cluster_from_left r number in
       let within = from_left-within r number le in
       let lt : i < cluster_count r = omega arith in
-      subst (λ k. P (span_after k (run_span r))) (turned (is_odd r.level) r.further number le)
+      subst (λ k. P (span_after k (run_span r))) (turned (is_odd r.level) r.span.further number le)
       (at-number (run_entry column r) (cluster_count r) (λ (e : Entry). P e.span) all i lt)
 
   pub all-clusters : (column : ℕ) (runs : List ClusterRun) → All (λ (e : Entry). P e.span) (runs_entries column runs)
-      → All (λ (r : ClusterRun). (number : ℕ) → number ≤ r.further → P (span_after number (run_span r))) runs
-  all-clusters column [] all = All-nil (λ (r : ClusterRun). (number : ℕ) → number ≤ r.further → P (span_after number (run_span r)))
+      → All (λ (r : ClusterRun). (number : ℕ) → number ≤ r.span.further → P (span_after number (run_span r))) runs
+  all-clusters column [] all = All-nil (λ (r : ClusterRun). (number : ℕ) → number ≤ r.span.further → P (span_after number (run_span r)))
   all-clusters column (r ∷ later) all =
       let Q : Entry → Type 0 = λ e. P e.span in
-      All-cons (λ (r : ClusterRun). (number : ℕ) → number ≤ r.further → P (span_after number (run_span r))) r later
+      All-cons (λ (r : ClusterRun). (number : ℕ) → number ≤ r.span.further → P (span_after number (run_span r))) r later
       (clusters-hold column r (All-front Q (run_entries column r) (runs_entries (column + run_columns r) later) all))
       (all-clusters (column + run_columns r) later (All-back Q (run_entries column r) (runs_entries (column + run_columns r) later) all))
 
@@ -70,7 +70,7 @@ pub may-shift-runs : (bytes places column : ℕ) (runs : List ClusterRun) → Al
 may-shift-runs bytes places column runs all = λ i d lt.
     let r = slice_index_or runs i d in
     let each = all-clusters (MayShift bytes places) column runs all i d lt in
-    record { first = subst (MayShift bytes places) (none-after (run_span r)) (each 0 (omega arith)); last = each r.further (omega arith) }
+    record { first = subst (MayShift bytes places) (none-after (run_span r)) (each 0 (omega arith)); last = each r.span.further (omega arith) }
 
 same-size : (first end more : ℕ) → end + more - (first + more) ≡ end - first
 same-size first end more = omega arith
@@ -107,12 +107,12 @@ module _ (bytes places : ℕ) where
       let b = h.last.end_byte in
       let c = h.last.first_place in
       let d = h.last.end_place in
-      subst (λ (s : Span). StaysInReach (r.further * byte_count s) (r.further * point_count s) s) (sym (later-kept bytes places r.span))
+      subst (λ (s : Span). StaysInReach (r.span.further * byte_count s) (r.span.further * point_count s) s) (sym (later-kept bytes places r.span))
       (record {
-        first_byte = subst (λ k. k < 2 ^ 32) (sym (first_bytes (run_span r) r.further)) (omega arith);
-        end_byte = subst (λ k. k < 2 ^ 32) (sym (end_bytes (run_span r) r.further)) (omega arith);
-        first_place = subst (λ k. k < 2 ^ 32) (sym (first_places (run_span r) r.further)) (omega arith);
-        end_place = subst (λ k. k < 2 ^ 32) (sym (end_places (run_span r) r.further)) (omega arith);
+        first_byte = subst (λ k. k < 2 ^ 32) (sym (first_bytes (run_span r) r.span.further)) (omega arith);
+        end_byte = subst (λ k. k < 2 ^ 32) (sym (end_bytes (run_span r) r.span.further)) (omega arith);
+        first_place = subst (λ k. k < 2 ^ 32) (sym (first_places (run_span r) r.span.further)) (omega arith);
+        end_place = subst (λ k. k < 2 ^ 32) (sym (end_places (run_span r) r.span.further)) (omega arith);
       })
 
   entries-shifted : (column : ℕ) (r : ClusterRun) (from n : ℕ) → map (run_entry column (shifted_run bytes places r)) (range_with_len from n) ≡ map (shifted_entry bytes places) (map (run_entry column r) (range_with_len from n))

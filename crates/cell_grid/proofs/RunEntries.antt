@@ -63,9 +63,9 @@ pub first-is : (runs : List ClusterRun) (r d : ClusterRun) → 0 < length runs �
 first-is [] r d some is = absurd (omega arith)
 first-is (x ∷ later) r d some is = ap (λ y. y ∷ later) (sym is)
 
-pub first_further-is : (runs : List ClusterRun) (r d : ClusterRun) → 0 < length runs → r ≡ get_or runs 0 d → first_further runs ≡ r.further
+pub first_further-is : (runs : List ClusterRun) (r d : ClusterRun) → 0 < length runs → r ≡ get_or runs 0 d → first_further runs ≡ r.span.further
 first_further-is [] r d some is = absurd (omega arith)
-first_further-is (x ∷ later) r d some is = ap (λ (y : ClusterRun). y.further) (sym is)
+first_further-is (x ∷ later) r d some is = ap (λ (y : ClusterRun). y.span.further) (sym is)
 
 pub runs_entries-append : (column : ℕ) (xs ys : List ClusterRun) → runs_entries column (xs ++ ys) ≡ runs_entries column xs ++ runs_entries (column + runs_columns xs) ys
 runs_entries-append column [] ys = let e : column ≡ column + 0 = omega arith in ap (λ c. runs_entries c ys) e

@@ -77,7 +77,7 @@ module _ (text : List ℕ) (r : ClusterRun) where
   pub entry-read : (number : ℕ) (e d : Entry) → number < cluster_count r → e ≡ run_entry 0 r number → e ≡ get_or (run_entries 0 r) number d
   entry-read number e d lt is = is ∙ sym (get_or-map-range_with_len (run_entry 0 r) 0 (cluster_count r) number number d lt (omega arith))
 
-  pub entry-slice : IsPrintable text r → (number : ℕ) (e : Entry) → number ≤ r.further → e ≡ run_entry 0 r number → IsSlice text e.span
+  pub entry-slice : IsPrintable text r → (number : ℕ) (e : Entry) → number ≤ r.span.further → e ≡ run_entry 0 r number → IsSlice text e.span
   entry-slice h number e le is =
       subst (λ (x : Entry). IsSlice text x.span) (sym is) (h.slices (cluster_from_left r number) (from_left-within r number le))
 
@@ -99,8 +99,8 @@ module _ (text : List ℕ) (r : ClusterRun) (h : IsPrintable text r) where
   pub first-slice : IsSlice text (run_span r)
   first-slice = subst (IsSlice text) (none-after (run_span r)) (h.slices 0 (omega arith))
 
-  pub last-slice : IsSlice text (span_after r.further (run_span r))
-  last-slice = h.slices r.further (omega arith)
+  pub last-slice : IsSlice text (span_after r.span.further (run_span r))
+  last-slice = h.slices r.span.further (omega arith)
 
   -- a cluster ends where the next one begins
   pub ends-next : (k : ℕ) → (run_span r).end_byte + k * byte_count (run_span r) ≡ (run_span r).first_byte + (k + 1) * byte_count (run_span r)
@@ -109,7 +109,7 @@ module _ (text : List ℕ) (r : ClusterRun) (h : IsPrintable text r) where
       let size : (run_span r).end_byte ≡ (run_span r).first_byte + byte_count (run_span r) = omega arith in
       end-next k (run_span r).first_byte (run_span r).end_byte (byte_count (run_span r)) size
 
-  pub run-order : (run_span r).first_byte ≤ (span_after r.further (run_span r)).end_byte
+  pub run-order : (run_span r).first_byte ≤ (span_after r.span.further (run_span r)).end_byte
   run-order = let order = first-slice.order in omega arith
 
 -- ---- the clusters of a run of an even level
@@ -121,7 +121,7 @@ module _ (text : List ℕ) (r : ClusterRun) (h : IsPrintable text r) (even : r.l
   -- each stands where it does in the text
   cluster-slice : (k : ℕ) → slice_of text (run_entry 0 r k).span ≡ slice_range text ((run_span r).first_byte + k * byte_count (run_span r)) ((run_span r).first_byte + (k + 1) * byte_count (run_span r))
   cluster-slice k =
-      ap (λ b. slice_of text (span_after (cond b (r.further - k) k) (run_span r))) not-odd
+      ap (λ b. slice_of text (span_after (cond b (r.span.further - k) k) (run_span r))) not-odd
       ∙ ap (slice_range text ((run_span r).first_byte + k * byte_count (run_span r))) (ends-next text r h k)
 
   slices-upto : (n : ℕ)
@@ -144,40 +144,40 @@ module _ (text : List ℕ) (r : ClusterRun) (h : IsPrintable text r) (even : r.l
       ∙ sym (slice-parts text from (from + n * size) (from + (n + 1) * size) low high)
       ∙ ap (λ k. slice_range text from (from + k * size)) (sym e)
 
-  pub slices-text : run_slices text r ≡ slice_range text (run_span r).first_byte (span_after r.further (run_span r)).end_byte
-  slices-text = slices-upto (cluster_count r) ∙ ap (slice_range text (run_span r).first_byte) (sym (ends-next text r h r.further))
+  pub slices-text : run_slices text r ≡ slice_range text (run_span r).first_byte (span_after r.span.further (run_span r)).end_byte
+  slices-text = slices-upto (cluster_count r) ∙ ap (slice_range text (run_span r).first_byte) (sym (ends-next text r h r.span.further))
 
 -- ---- the clusters of a run of an odd level
 
 module _ (text : List ℕ) (r : ClusterRun) (h : IsPrintable text r) (odd : r.level % 2 ≡ 1) where
-  from-last : (number : ℕ) → cluster_from_left r number ≡ r.further - number
-  from-last number = ap (λ k. cond (k == 1) (r.further - number) number) odd
+  from-last : (number : ℕ) → cluster_from_left r number ≡ r.span.further - number
+  from-last number = ap (λ k. cond (k == 1) (r.span.further - number) number) odd
 
   -- the cluster behind so many from the left ends where as many others do as are left, and begins a cluster before
   module _ (number end : ℕ) (lt : number < cluster_count r) (is : end ≡ (run_span r).first_byte + (cluster_count r - number) * byte_count (run_span r)) where
-    pub left-is : (cluster_count r - number) * byte_count (run_span r) ≡ (r.further - number) * byte_count (run_span r) + byte_count (run_span r)
+    pub left-is : (cluster_count r - number) * byte_count (run_span r) ≡ (r.span.further - number) * byte_count (run_span r) + byte_count (run_span r)
     left-is =
-        let e : cluster_count r - number ≡ r.further - number + 1 = omega arith in
+        let e : cluster_count r - number ≡ r.span.further - number + 1 = omega arith in
         let all = ap (λ k. k * byte_count (run_span r)) e in
         omega arith
 
     pub start-odd : end - byte_count (run_span r) ≡ (span_after (cluster_from_left r number) (run_span r)).first_byte
     start-odd =
         let all = left-is in
-        let e : end - byte_count (run_span r) ≡ (run_span r).first_byte + (r.further - number) * byte_count (run_span r) = omega arith in
+        let e : end - byte_count (run_span r) ≡ (run_span r).first_byte + (r.span.further - number) * byte_count (run_span r) = omega arith in
         e ∙ sym (ap (λ k. (span_after k (run_span r)).first_byte) (from-last number))
 
     pub end-odd : end ≡ (span_after (cluster_from_left r number) (run_span r)).end_byte
     end-odd =
         let all = left-is in
         let order = (first-slice text r h).order in
-        let e : end ≡ (run_span r).end_byte + (r.further - number) * byte_count (run_span r) = omega arith in
+        let e : end ≡ (run_span r).end_byte + (r.span.further - number) * byte_count (run_span r) = omega arith in
         e ∙ sym (ap (λ k. (span_after k (run_span r)).end_byte) (from-last number))
 
     pub start-next : end - byte_count (run_span r) ≡ (run_span r).first_byte + (cluster_count r - (number + 1)) * byte_count (run_span r)
     start-next =
         let all = left-is in
-        let e : cluster_count r - (number + 1) ≡ r.further - number = omega arith in
+        let e : cluster_count r - (number + 1) ≡ r.span.further - number = omega arith in
         let same = ap (λ k. k * byte_count (run_span r)) e in
         omega arith
 
@@ -237,9 +237,9 @@ module _ (text : List ℕ) (u : IsUtf8 text) (p : ℕ → Bool) where
       (or_parts (list_any p (code_points part)) (list_any p (code_points back)) later.1).0
 
 module _ (tables : TableValues) (text : List ℕ) (r : ClusterRun) (h : IsPrintable text r) (u : IsUtf8 text) (some : 0 < r.columns) where
-  module _ (p : ℕ → Bool) (none : list_any p (code_points (slice_range text (run_span r).first_byte (span_after r.further (run_span r)).end_byte)) ≡ false) where
+  module _ (p : ℕ → Bool) (none : list_any p (code_points (slice_range text (run_span r).first_byte (span_after r.span.further (run_span r)).end_byte)) ≡ false) where
     -- what no code point of the run has, none of a cluster has
-    cluster-none : (number : ℕ) → number ≤ r.further → list_any p (code_points (slice_of text (span_after number (run_span r)))) ≡ false
+    cluster-none : (number : ℕ) → number ≤ r.span.further → list_any p (code_points (slice_of text (span_after number (run_span r)))) ≡ false
     cluster-none number le =
         let size = byte_count (run_span r) in
         let from = (run_span r).first_byte + number * size in
@@ -248,15 +248,15 @@ module _ (tables : TableValues) (text : List ℕ) (r : ClusterRun) (h : IsPrinta
         let first = first-slice text r h in
         let last = last-slice text r h in
         let low = some-upto (run_span r).first_byte number size in
-        let high : to ≤ (run_span r).end_byte + r.further * size = (let more = mul-le-mul_right size le in omega arith) in
-        part-none text u p (run_span r).first_byte from to ((run_span r).end_byte + r.further * size) low here.order high first.start here.start here.end last.end none
+        let high : to ≤ (run_span r).end_byte + r.span.further * size = (let more = mul-le-mul_right size le in omega arith) in
+        part-none text u p (run_span r).first_byte from to ((run_span r).end_byte + r.span.further * size) low here.order high first.start here.start here.end last.end none
 
-  cluster-utf8 : (number : ℕ) → number ≤ r.further → IsUtf8 (slice_of text (span_after number (run_span r)))
+  cluster-utf8 : (number : ℕ) → number ≤ r.span.further → IsUtf8 (slice_of text (span_after number (run_span r)))
   cluster-utf8 number le =
       let here = h.slices number le in
       IsUtf8-between text (span_after number (run_span r)).first_byte (span_after number (run_span r)).end_byte u here.order here.start here.end
 
-  each-same : ((k : ℕ) → k ≤ r.further → own_text tables text (run_entry 0 r k) ≡ slice_of text (run_entry 0 r k).span) → (from n : ℕ) → from + n ≤ cluster_count r
+  each-same : ((k : ℕ) → k ≤ r.span.further → own_text tables text (run_entry 0 r k) ≡ slice_of text (run_entry 0 r k).span) → (from n : ℕ) → from + n ≤ cluster_count r
       → flat_map (own_text tables text) (map (run_entry 0 r) (range_with_len from n)) ≡ flat_map (λ (e : Entry). slice_of text e.span) (map (run_entry 0 r) (range_with_len from n))
   each-same same from zero le = refl
   each-same same from (suc n) le =
@@ -269,7 +269,7 @@ module _ (tables : TableValues) (text : List ℕ) (r : ClusterRun) (h : IsPrinta
       ∙ sym (flat_map-cons g (run_entry 0 r from) later)
 
   -- no tab is in it, and nothing is mirrored at its level
-  pub even-clusters : r.level % 2 ≡ 0 → list_any (separates_segments tables) (code_points (slice_range text (run_span r).first_byte (span_after r.further (run_span r)).end_byte)) ≡ false
+  pub even-clusters : r.level % 2 ≡ 0 → list_any (separates_segments tables) (code_points (slice_range text (run_span r).first_byte (span_after r.span.further (run_span r)).end_byte)) ≡ false
       → run_text tables text r ≡ run_slices text r
   even-clusters even none =
       each-same
@@ -282,7 +282,7 @@ module _ (tables : TableValues) (text : List ℕ) (r : ClusterRun) (h : IsPrinta
       0 (cluster_count r) (omega arith)
 
   -- nothing in it is ever replaced
-  pub kept-clusters : list_any (is_replaced tables) (code_points (slice_range text (run_span r).first_byte (span_after r.further (run_span r)).end_byte)) ≡ false
+  pub kept-clusters : list_any (is_replaced tables) (code_points (slice_range text (run_span r).first_byte (span_after r.span.further (run_span r)).end_byte)) ≡ false
       → run_text tables text r ≡ run_slices text r
   kept-clusters none =
       each-same

@@ -62,7 +62,7 @@ next-size : (n size : ℕ) → size + n * size ≡ suc n * size
 next-size n size = omega arith
 
 module _ (text : List ℕ) (r : ClusterRun) (h : IsPrintable text r) where
-  slice-size : (k : ℕ) → k ≤ r.further → length (slice_of text (run_entry 0 r k).span) ≡ byte_count (run_span r)
+  slice-size : (k : ℕ) → k ≤ r.span.further → length (slice_of text (run_entry 0 r k).span) ≡ byte_count (run_span r)
   slice-size k le =
       let number = cluster_from_left r k in
       let here = h.slices number (from_left-within r k le) in
@@ -80,8 +80,8 @@ module _ (text : List ℕ) (r : ClusterRun) (h : IsPrintable text r) where
       ∙ next-size n (byte_count (run_span r))
 
   -- they have the bytes from where the first begins up to where the last ends
-  pub slices-size : length (run_slices text r) + (run_span r).first_byte ≡ (span_after r.further (run_span r)).end_byte
+  pub slices-size : length (run_slices text r) + (run_span r).first_byte ≡ (span_after r.span.further (run_span r)).end_byte
   slices-size =
       let all = each-size 0 (cluster_count r) (omega arith) in
-      let ends = ends-next text r h r.further in
+      let ends = ends-next text r h r.span.further in
       omega arith

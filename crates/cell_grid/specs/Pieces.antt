@@ -29,7 +29,7 @@ columns_of pieces = flat_map run_widths pieces
 
 -- the piece with this number
 abbrev pub no_piece : ClusterRun
-no_piece = record { span = no_span; further = 0; level = 0; columns = 0 }
+no_piece = record { span = no_span; level = 0; columns = 0 }
 
 abbrev pub piece_at : List ClusterRun → ℕ → ClusterRun
 piece_at pieces k = slice_index_or pieces k no_piece

@@ -22,4 +22,4 @@ AreSlices text r = All (λ (e : Entry). IsSlice text e.span) r.entries
 pub record IsPrintable (text : List ℕ) (r : ClusterRun) : Type 0 where
   pub reach : IsInReach r
   pub columns : run_columns r < 2 ^ 16
-  pub slices : (number : ℕ) → number ≤ r.further → IsSlice text (span_after number (run_span r))
+  pub slices : (number : ℕ) → number ≤ r.span.further → IsSlice text (span_after number (run_span r))

@@ -26,11 +26,11 @@ abbrev pub run_span : ClusterRun → Span
 run_span r = span_kept r.span
 
 abbrev pub cluster_count : ClusterRun → ℕ
-cluster_count r = r.further + 1
+cluster_count r = r.span.further + 1
 
 -- which cluster, in the order of the text, stands behind so many from the left: at an odd level they stand in the opposite order
 abbrev pub cluster_from_left : ClusterRun → ℕ → ℕ
-cluster_from_left r number = if is_odd r.level then r.further - number else number
+cluster_from_left r number = if is_odd r.level then r.span.further - number else number
 
 -- the entry with this number, from the left, of a run that begins at this column
 abbrev pub run_entry : (column : ℕ) → ClusterRun → (number : ℕ) → Entry
@@ -58,7 +58,7 @@ runs_entries column (r ∷ later) = run_entries column r ++ runs_entries (column
 
 -- the last cluster of a run still has numbers of 32 bits
 abbrev pub IsInReach : ClusterRun → Type 0
-IsInReach r = StaysInReach (r.further * byte_count (run_span r)) (r.further * point_count (run_span r)) (run_span r)
+IsInReach r = StaysInReach (r.span.further * byte_count (run_span r)) (r.span.further * point_count (run_span r)) (run_span r)
 
 -- a run moved this many bytes and places later
 abbrev pub shifted_run : (bytes places : ℕ) → ClusterRun → ClusterRun
@@ -67,7 +67,7 @@ shifted_run bytes places r = record r { span = kept_later bytes places r.span }
 -- its first and its last cluster may be shifted
 pub record MayShiftRun (bytes places : ℕ) (r : ClusterRun) : Type 0 where
   pub first : MayShift bytes places (run_span r)
-  pub last : MayShift bytes places (span_after r.further (run_span r))
+  pub last : MayShift bytes places (span_after r.span.further (run_span r))
 
 -- the runs of a row: their entries stand within the width from column `start` on, and are so many
 pub record AreKept (width start count : ℕ) (runs : List ClusterRun) : Type 0 where
@@ -79,7 +79,7 @@ pub record AreKept (width start count : ℕ) (runs : List ClusterRun) : Type 0 w
 -- how many clusters the first run has behind its first
 abbrev pub first_further : List ClusterRun → ℕ
 first_further [] = 0
-first_further (r ∷ later) = r.further
+first_further (r ∷ later) = r.span.further
 
 -- the runs that are left of a row at this column, where so many entries of the first are passed
 pub record AreLeft (column passed : ℕ) (runs : List ClusterRun) : Type 0 where

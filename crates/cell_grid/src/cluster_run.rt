@@ -15,17 +15,15 @@ use std::mem::size_of;
 /// one in the opposite order.
 #[derive(Clone, Copy, Debug)]
 pub(crate) struct ClusterRun {
-    /// Where the first of them in the text stands.
+    /// Where the first of them in the text stands, and how many more there are.
     pub(crate) span: KeptSpan,
-    /// How many more there are.
-    pub(crate) further: u16,
     pub(crate) level: u8,
     /// How many columns each has.
     pub(crate) columns: u8,
 }
 
 // Less than an `Entry` has, so that no row keeps more than it would with one for each cluster.
-const _: () = prove!(size_of::<ClusterRun>() <= 16);
+const _: () = prove!(size_of::<ClusterRun>() <= 14);
 
 impl ClusterRun {
     /// One cluster.
@@ -36,10 +34,9 @@ impl ClusterRun {
         ensures columns { run_columns result ≡ entry.columns }
         ensures reach { IsInReach result }
     {
-        let span = KeptSpan::of(entry.span);
+        let span = KeptSpan::of(entry.span, 0);
         ClusterRun {
             span,
-            further: 0,
             level: entry.level,
             columns: entry.columns,
         }
@@ -48,9 +45,10 @@ impl ClusterRun {
     /// How many clusters it has.
     #[inline]
     pub(crate) fn count(&self) -> u32
-        ensures { result ≡ cluster_count self.now }
+        ensures number { result ≡ cluster_count self.now }
+        ensures most { result ≤ 256 }
     {
-        u32::from(self.further) + 1
+        u32::from(self.span.further) + 1
     }
 
     /// The columns of all of them.
@@ -58,14 +56,15 @@ impl ClusterRun {
     pub(crate) fn all_columns(&self) -> u32
         ensures { result ≡ run_columns self.now }
     {
-        let count = u32::from(self.further) + 1;
-        count * u32::from(self.columns)
+        let columns = u32::from(self.columns);
+        let count = u32::from(self.span.further) + 1;
+        count * columns
     }
 
     /// Where the cluster behind so many of them in the text stands.
     #[inline]
-    pub(crate) fn cluster(&self, number: u16) -> Span
-        requires within { number ≤ self.now.further }
+    pub(crate) fn cluster(&self, number: u8) -> Span
+        requires within { number ≤ self.now.span.further }
         requires reach { IsInReach self.now }
         ensures { result ≡ span_after number (run_span self.now) }
     {
@@ -76,7 +75,7 @@ impl ClusterRun {
     #[inline]
     pub(crate) fn end_byte(&self) -> u32
         requires { IsInReach self.now }
-        ensures { result ≡ (span_after self.now.further (run_span self.now)).end_byte }
+        ensures { result ≡ (span_after self.now.span.further (run_span self.now)).end_byte }
     {
         let first = self.span.read();
         let bytes = first.end_byte - first.first_byte;
@@ -85,13 +84,13 @@ impl ClusterRun {
 
     /// Which cluster, in the order of the text, stands behind so many from the left.
     #[inline]
-    pub(crate) fn cluster_from_left(&self, number: u16) -> u16
-        requires { number ≤ self.now.further }
+    pub(crate) fn cluster_from_left(&self, number: u8) -> u8
+        requires { number ≤ self.now.span.further }
         ensures which { result ≡ cluster_from_left self.now number }
-        ensures within { result ≤ self.now.further }
+        ensures within { result ≤ self.now.span.further }
     {
         if self.level % 2 == 1 {
-            self.further - number
+            self.span.further - number
         } else {
             number
         }
@@ -99,15 +98,15 @@ impl ClusterRun {
 
     /// The entry with this number, from the left, where the run begins at a column.
     #[inline]
-    pub(crate) fn entry(&self, column: u16, number: u16) -> Entry
-        requires within { number ≤ self.now.further }
+    pub(crate) fn entry(&self, column: u16, number: u8) -> Entry
+        requires within { number ≤ self.now.span.further }
         requires reach { IsInReach self.now }
         requires fits { column + run_columns self.now < 2 ^ 16 }
         ensures { result ≡ run_entry column self.now number }
     {
         let cluster = self.cluster_from_left(number);
         let span = self.cluster(cluster);
-        let before = number * u16::from(self.columns);
+        let before = u16::from(number) * u16::from(self.columns);
         let column = column + before;
         Entry {
             span,

@@ -16,7 +16,7 @@ pub struct Entries<'a> {
     /// Where the first of them begins.
     column: u16,
     /// How many of its entries are passed.
-    passed: u16,
+    passed: u8,
 }
 
 impl<'a> Model for Entries<'a> {
@@ -66,7 +66,7 @@ impl<'a> Iterator for Entries<'a> {
         }
         let run = &runs[0];
         let entry = run.entry(self.column, self.passed);
-        if self.passed < run.further {
+        if self.passed < run.span.further {
             self.passed += 1;
             return Some(entry);
         }

@@ -1,48 +1,84 @@
 //! Where clusters stand, as a row keeps it.
 
-ghost use Rattle.std.specs.Prelude.{◌≡◌, ◌≤◌};
-ghost use Rattle.cell_grid.specs.KeptSpans.{span_kept, kept_later, IsShort};
+ghost use Rattle.std.specs.Prelude.{◌≡◌, ◌+◌, ◌*◌, ◌/◌, ◌%◌, ◌^◌, ◌<◌};
+ghost use Rattle.cell_grid.specs.KeptSpans.{number_of, high_of, points_of, span_kept, kept_later, IsShort};
 ghost use Rattle.cell_grid.specs.Shifting.{MayShift};
 
 use paragraphs::Span;
 use std::mem::size_of;
 
-/// A byte or a place has 24 bits, and stands in a word with the high 8 bits of a size.
-const HIGH_SIZES: u32 = 256;
+/// A number has 22 bits. How many values its low 16 have, which stand alone.
+const LOW: u32 = 65_536;
 
-/// How many values the low bits of a size have.
-const LOW_SIZES: u32 = 65_536;
+/// How many values the 2 bits have that stand in a byte below the high 6 of a number: they are of the high 6 of the code points.
+const SHARE: u32 = 4;
 
-/// A span whose numbers have at most 24 bits, in 12 bytes.
-// Nearly all sizes have 16 bits alone: what is read of those that have more costs the others no test.
+/// A span whose numbers have at most 22 bits, and how many more of its size follow it, in 12 bytes.
 #[derive(Clone, Copy, Debug)]
 pub(crate) struct KeptSpan {
-    /// Where it begins, and the high bits of how many bytes it has.
-    byte: u32,
-    /// The place where it begins, and the high bits of how many code points it has.
-    place: u32,
-    /// The low bits of how many bytes it has.
+    /// Where it begins.
+    byte: u16,
+    /// The place where it begins.
+    place: u16,
+    /// How many bytes it has.
     bytes: u16,
-    /// The low bits of how many code points it has.
+    /// How many code points it has.
     points: u16,
+    byte_high: u8,
+    place_high: u8,
+    bytes_high: u8,
+    /// Not a part of the span, but nowhere else is a byte left for it.
+    pub(crate) further: u8,
 }
 
 const _: () = prove!(size_of::<KeptSpan>() == 12);
 
+/// The low bits of a number.
+#[inline]
+fn low(number: u32) -> u16
+    ensures { result ≡ number % 65_536 }
+{
+    (number % LOW) as u16
+}
+
+/// The high bits of a number beside 2 others.
+#[inline]
+fn high(number: u32, share: u32) -> u8
+    requires number { number < 2 ^ 22 }
+    requires share { share < 4 }
+    ensures { result ≡ high_of number share }
+{
+    (number / LOW * SHARE + share) as u8
+}
+
+/// The number of which these are the low bits, and the byte with the high ones.
+#[inline]
+fn whole(low: u16, high: u8) -> u32
+    ensures { result ≡ number_of low high }
+{
+    u32::from(high) / SHARE * LOW + u32::from(low)
+}
+
 impl KeptSpan {
-    /// What is stored of a span.
+    /// What is stored of a span that so many of its size follow.
     #[inline]
-    pub(crate) fn of(span: Span) -> KeptSpan
+    pub(crate) fn of(span: Span, further: u8) -> KeptSpan
         requires { IsShort span }
-        ensures { span_kept result ≡ span }
+        ensures span { span_kept result ≡ span }
+        ensures further { result.further ≡ further }
     {
         let bytes = span.end_byte - span.first_byte;
         let points = span.end_place - span.first_place;
+        let share = points / LOW;
         KeptSpan {
-            byte: span.first_byte * HIGH_SIZES + bytes / LOW_SIZES,
-            place: span.first_place * HIGH_SIZES + points / LOW_SIZES,
-            bytes: (bytes % LOW_SIZES) as u16,
-            points: (points % LOW_SIZES) as u16,
+            byte: low(span.first_byte),
+            place: low(span.first_place),
+            bytes: low(bytes),
+            points: low(points),
+            byte_high: high(span.first_byte, share % SHARE),
+            place_high: high(span.first_place, share / SHARE % SHARE),
+            bytes_high: high(bytes, share / (SHARE * SHARE)),
+            further,
         }
     }
 
@@ -51,16 +87,25 @@ impl KeptSpan {
     pub(crate) fn read(self) -> Span
         ensures { result ≡ span_kept self }
     {
-        let first_byte = self.byte / HIGH_SIZES;
-        let first_place = self.place / HIGH_SIZES;
-        let bytes = self.byte % HIGH_SIZES * LOW_SIZES + u32::from(self.bytes);
-        let points = self.place % HIGH_SIZES * LOW_SIZES + u32::from(self.points);
+        let first_byte = whole(self.byte, self.byte_high);
+        let first_place = whole(self.place, self.place_high);
         Span {
             first_byte,
-            end_byte: first_byte + bytes,
+            end_byte: first_byte + whole(self.bytes, self.bytes_high),
             first_place,
-            end_place: first_place + points,
+            end_place: first_place + self.points(),
         }
+    }
+
+    /// How many code points it has.
+    #[inline]
+    fn points(self) -> u32
+        ensures { result ≡ points_of self }
+    {
+        let first = u32::from(self.byte_high) % SHARE;
+        let second = u32::from(self.place_high) % SHARE * SHARE;
+        let third = u32::from(self.bytes_high) % SHARE * (SHARE * SHARE);
+        (first + second + third) * LOW + u32::from(self.points)
     }
 
     /// What is stored of the span this many bytes and places later.
@@ -69,11 +114,17 @@ impl KeptSpan {
         requires { MayShift bytes places (span_kept self) }
         ensures { result ≡ kept_later bytes places self }
     {
+        let byte = whole(self.byte, self.byte_high) + bytes;
+        let place = whole(self.place, self.place_high) + places;
         KeptSpan {
-            byte: self.byte + bytes * HIGH_SIZES,
-            place: self.place + places * HIGH_SIZES,
+            byte: low(byte),
+            place: low(place),
             bytes: self.bytes,
             points: self.points,
+            byte_high: high(byte, u32::from(self.byte_high) % SHARE),
+            place_high: high(place, u32::from(self.place_high) % SHARE),
+            bytes_high: self.bytes_high,
+            further: self.further,
         }
     }
 }

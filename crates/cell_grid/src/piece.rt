@@ -18,7 +18,7 @@ use line_break::ShapeRun;
 use paragraphs::Span;
 
 /// How many clusters a piece has at most.
-const CLUSTERS: u32 = 65_536;
+const CLUSTERS: u32 = 256;
 
 /// What the first of some clusters take up in a line: as many as have the same columns there.
 #[derive(Clone, Copy)]
@@ -102,10 +102,9 @@ fn first_piece(run: ShapeRun, most: u32, levels: &[u8], room: u16) -> (ClusterRu
         first_place: run.first_place,
         end_place: run.first_place + run.points,
     };
-    let span = KeptSpan::of(span);
+    let span = KeptSpan::of(span, (fit.count - 1) as u8);
     let piece = ClusterRun {
         span,
-        further: (fit.count - 1) as u16,
         level: levels[0],
         columns: fit.columns,
     };

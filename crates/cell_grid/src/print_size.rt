@@ -61,7 +61,7 @@ fn run_size(tables: &Tables, text: &str, run: &ClusterRun) -> Result<usize, Memo
 {
     if prints_its_clusters(tables, text, run) {
         let first = run.span.read();
-        let last = run.cluster(run.further);
+        let last = run.cluster(run.span.further);
         return Ok(last.end_byte as usize - first.first_byte as usize);
     }
     clusters_size(tables, text, run)
@@ -74,7 +74,7 @@ fn clusters_size(tables: &Tables, text: &str, run: &ClusterRun) -> Result<usize,
 {
     let mut size = 0usize;
     for number in 0..run.count() {
-        let entry = run.entry(0, number as u16);
+        let entry = run.entry(0, number as u8);
         let own = cells_size(tables, text, entry)?;
         size = added(size, own)?;
     }

@@ -187,7 +187,7 @@ fn slice_at(tables: &Tables, text: &str, runs: &[ClusterRun], start: usize) -> (
 /// Whether a run is known to print what stands in the text: its clusters do, and stand in the order of the text.
 fn prints_its_slice(tables: &Tables, text: &str, run: &ClusterRun) -> bool
     requires { IsPrintable text.now run.now }
-    ensures { result ≡ true → run_text tables.now text.now run.now ≡ slice_range text.now (run_span run.now).first_byte (span_after run.now.further (run_span run.now)).end_byte }
+    ensures { result ≡ true → run_text tables.now text.now run.now ≡ slice_range text.now (run_span run.now).first_byte (span_after run.now.span.further (run_span run.now)).end_byte }
 {
     run.level % 2 == 0 && prints_its_clusters(tables, text, run)
 }
@@ -372,7 +372,7 @@ fn hold_each<W: Sink>(
 {
     let first = run.span.read();
     let bytes = first.end_byte - first.first_byte;
-    let last = run.cluster(run.further);
+    let last = run.cluster(run.span.further);
     let count = run.count();
     let mut end = last.end_byte;
     for _ in 0..count {
@@ -401,7 +401,7 @@ fn hold_clusters<W: Sink>(
     ensures failed { W.has_failed sink.new ≡ is_err result }
 {
     for number in 0..run.count() {
-        let entry = run.entry(0, number as u16);
+        let entry = run.entry(0, number as u8);
         hold_cells(tables, text, entry, held, sink)?;
     }
     Ok(())

@@ -30,7 +30,7 @@ pub(crate) fn run_count(runs: &[ClusterRun]) -> usize
 fn goes_on(left: &ClusterRun, right: &ClusterRun) -> bool
     requires left { IsInReach left.now }
     requires right { IsInReach right.now }
-    ensures { (column next : ℕ) → result ≡ goes_on (run_entry column left.now left.now.further) (run_entry next right.now 0) }
+    ensures { (column next : ℕ) → result ≡ goes_on (run_entry column left.now left.now.span.further) (run_entry next right.now 0) }
 {
     if left.level != right.level {
         return false;
@@ -40,9 +40,9 @@ fn goes_on(left: &ClusterRun, right: &ClusterRun) -> bool
     }
     if left.level % 2 == 1 {
         // What stands further right stands earlier in the text.
-        return is_next(right.cluster(right.further), left.span.read());
+        return is_next(right.cluster(right.span.further), left.span.read());
     }
-    is_next(left.cluster(left.further), right.span.read())
+    is_next(left.cluster(left.span.further), right.span.read())
 }
 
 /// Whether the second span is the one behind the first, and of its size.

@@ -16,9 +16,9 @@ pub(crate) fn entry_in(runs: &[ClusterRun], start: u16, number: usize) -> Option
     let mut column = start;
     let mut left = number;
     for run in runs {
-        let further = usize::from(run.further);
+        let further = usize::from(run.span.further);
         if left <= further {
-            return Some(run.entry(column, left as u16));
+            return Some(run.entry(column, left as u8));
         }
         left -= further + 1;
         column += run.all_columns() as u16;

@@ -23,7 +23,7 @@ pub(crate) fn shifted(span: Span, bytes: u32, places: u32) -> Span
 
 /// The span behind so many spans like this one, of which it is the first.
 #[inline]
-pub(crate) fn span_after(count: u16, span: Span) -> Span
+pub(crate) fn span_after(count: u8, span: Span) -> Span
     requires { StaysInReach (count * byte_count span) (count * point_count span) span }
     ensures { result ≡ span_after count span }
 {

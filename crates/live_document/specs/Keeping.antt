@@ -41,9 +41,9 @@ rows_beside p = option_map_or (λ (rows : Rows). rows) p.kept []
 abbrev pub rows_at : KeptText → ℕ → List DrawnRow
 rows_at kept number = option_map_or rows_beside (slice_get kept number) []
 
--- what rows weigh, in bytes: each one 48, and each of its runs of like clusters 16
+-- what rows weigh, in bytes: each one 48, and each of its runs of like clusters 14
 abbrev pub row_weight : DrawnRow → ℕ
-row_weight r = 48 + 16 * run_count r.entries
+row_weight r = 48 + 14 * run_count r.entries
 
 abbrev pub rows_weight : Rows → ℕ
 rows_weight rows = sum_by row_weight rows
@@ -51,7 +51,7 @@ rows_weight rows = sum_by row_weight rows
 -- rows that weigh so much
 pub record Weigh (rows : Rows) (weight : ℕ) : Type 0 where
   pub is : weight ≡ rows_weight rows
-  pub few : weight ≤ 64_000_048 * length rows
+  pub few : weight ≤ 56_000_048 * length rows
 
 -- what the rows weigh that are kept
 abbrev pub weight_held : KeptText → ℕ

@@ -411,10 +411,10 @@ impl Document {
     }
 
     /// From now on rows are kept in the memory of so many (at most 1,000,000), or of those of four windows where these are more,
-    /// counted as if each column had an entry of its own; a document is made with 0. A row has 48 bytes, and 16 for each run of like
+    /// counted as if each column had an entry of its own; a document is made with 0. A row has 48 bytes, and 14 for each run of like
     /// clusters, so that most texts have many more rows in it. Where the rows of a whole text may be kept, a paragraph is laid out once and
     /// after edits of its own alone. What is shown stays, and the next `show` forgets what is too much.
-    /// Cost: O(1); `show` then keeps up to 16 bytes for each run of a row.
+    /// Cost: O(1); `show` then keeps up to 14 bytes for each run of a row.
     pub fn keep_rows(&mut self, rows: usize)
         requires { rows ≤ 1_000_000 }
         ensures most { self.new ≡ record self.old { most = rows } }

@@ -133,7 +133,7 @@ pub fn lay_out(
     ensures rows { IfOk result (λ out. out.rows ≡ length (rows_of_text tables.now width base (get_or (paragraphs_in buffer.old) number []))) }
     ensures few { IfOk result (λ out. out.rows ≤ 4_000_001) }
     ensures weight { IfOk result (λ out. out.weight ≡ rows_weight (rows_of_text tables.now width base (get_or (paragraphs_in buffer.old) number []))) }
-    ensures most { IfOk result (λ out. out.weight ≤ 64_000_048 * out.rows) }
+    ensures most { IfOk result (λ out. out.weight ≤ 56_000_048 * out.rows) }
     ensures laid { IfOk result (λ out. out.laid ≡ (if is_kept (flags buffer.old) number then 0 else 1)) }
     ensures held { IfOk result (λ out. weight_held buffer.new ≡ weight_held buffer.old + out.made) }
     ensures made { IfOk result (λ out. out.made ≤ out.weight) }
@@ -197,7 +197,7 @@ pub fn reach_up(
     ensures needed { IfOk result (λ reach. reach.number < number
         → length (rows_of_texts tables.now width base (slice_range (paragraphs_in buffer.old) (reach.number + 1) number)) < wanted) }
     ensures few { IfOk result (λ reach. reach.rows ≤ 5_000_000) }
-    ensures most { IfOk result (λ reach. reach.weight ≤ 64_000_048 * reach.rows) }
+    ensures most { IfOk result (λ reach. reach.weight ≤ 56_000_048 * reach.rows) }
     ensures laid { IfOk result (λ reach. reach.laid ≡ count_by not (slice_range (flags buffer.old) reach.number number)) }
     ensures once { IfOk result (λ reach. reach.laid + reach.number ≤ number) }
     ensures held { IfOk result (λ reach. weight_held buffer.new ≡ weight_held buffer.old + reach.made) }
@@ -249,7 +249,7 @@ pub fn reach_down(
     ensures needed { IfOk result (λ reach. number < reach.number
         → length (rows_of_texts tables.now width base (slice_range (paragraphs_in buffer.old) number (reach.number - 1))) < wanted) }
     ensures few { IfOk result (λ reach. reach.rows ≤ 5_000_000) }
-    ensures most { IfOk result (λ reach. reach.weight ≤ 64_000_048 * reach.rows) }
+    ensures most { IfOk result (λ reach. reach.weight ≤ 56_000_048 * reach.rows) }
     ensures laid { IfOk result (λ reach. reach.laid ≡ count_by not (slice_range (flags buffer.old) number reach.number)) }
     ensures once { IfOk result (λ reach. reach.laid + number ≤ reach.number) }
     ensures held { IfOk result (λ reach. weight_held buffer.new ≡ weight_held buffer.old + reach.made) }

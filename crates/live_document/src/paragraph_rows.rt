@@ -11,7 +11,7 @@ use text_buffer::Weighed;
 pub const ROW_BYTES: usize = 48;
 
 /// How many bytes each of its runs of like clusters has.
-const RUN_BYTES: usize = 16;
+const RUN_BYTES: usize = 14;
 
 /// The rows of a paragraph, counted from its start, and what they weigh.
 #[derive(Drop)]

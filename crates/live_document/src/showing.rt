@@ -75,7 +75,7 @@ fn own_row(
     ensures few { IfOk result (λ own. own.rows ≤ 4_000_001) }
     ensures held { IfOk result (λ own. weight_held buffer.new ≡ weight_held buffer.old + own.made) }
     ensures weight { IfOk result (λ own. own.weight ≡ rows_weight (rows_of_text tables.now width base (get_or (paragraphs_in buffer.old) own.number []))) }
-    ensures most { IfOk result (λ own. own.weight ≤ 64_000_048 * own.rows) }
+    ensures most { IfOk result (λ own. own.weight ≤ 56_000_048 * own.rows) }
     ensures made { IfOk result (λ own. own.made ≤ own.weight) }
     ensures laid { IfOk result (λ own. own.laid ≡ (if is_kept (flags buffer.old) own.number then 0 else 1)) }
 {

@@ -10,7 +10,7 @@ use Rattle.cell_grid.proofs.Steps.{drop-none}
 use Rattle.cell_grid.proofs.cell.cell_in.Goals as goal
 
 abbrev no_run : ClusterRun
-no_run = record { span = no_span; further = 0; level = 0; columns = 0 }
+no_run = record { span = no_span; level = 0; columns = 0 }
 
 pub returns-then-column-left : goal.returns-then-column-left
 returns-then-column-left c = before-all c.args.start c.args.column c.args.runs.now (omega arith)
@@ -60,7 +60,7 @@ loop-run-preserved c =
     let number = c.loop-run.number in
     let all = runs_entries c.args.start runs in
     let own = c.all_columns.ensures in
-    let count = c.count.ensures in
+    let count = c.count.ensures.number in
     let next : left + c.all_columns.result ≡ left + run_columns r = ap (λ n. left + n) own in
     let passed : number + c.count.result ≡ number + cluster_count r = ap (λ n. number + n) count in
     let wide = rest-columns left runs i r no_run c.loop-run-test.true refl in

@@ -8,7 +8,7 @@ use Rattle.cell_grid.proofs.Steps.{drop-none}
 use Rattle.cell_grid.proofs.column.end_column.Goals as goal
 
 abbrev no_run : ClusterRun
-no_run = record { span = no_span; further = 0; level = 0; columns = 0 }
+no_run = record { span = no_span; level = 0; columns = 0 }
 
 pub overflow_cast-end : goal.overflow_cast-end
 overflow_cast-end c =

@@ -35,7 +35,7 @@ first_piece-behind_it-requires-clause-levels c =
 pub overflow_mul-ahead : goal.overflow_mul-ahead
 overflow_mul-ahead c =
     let run = c.begin.new.self.first in
-    let n = c.count-count.ensures in
+    let n = c.count-count.ensures.number in
     let m = c.first_piece-behind_it.ensures.within in
     let least = c.min-most.ensures in
     let all = mul-le c.count-count.result run.points run.count run.points (omega arith) (omega arith) in
@@ -53,7 +53,7 @@ slice_bounds-ahead-count c =
     let ahead = c.loop-left.ahead.now in
     let begun = cut-begun line c.args.clusters c.args.levels.now c.args.width pieces left ahead c.loop-left.room (left_of c.args.runs.now c.loop-left.reader) (run ∷ later)
     c.begin.ensures.same (c.begin.ensures.within c.loop-left.invariant.within) c.loop-left.invariant in
-    let n = c.count-count.ensures in
+    let n = c.count-count.ensures.number in
     let m = c.first_piece-behind_it.ensures.within in
     let least = c.min-most.ensures in
     let long = level-each line c.args.clusters c.args.levels.now c.args.width pieces left ahead c.loop-left.room run later begun c.count-count.result (omega arith) (omega arith) in
@@ -69,7 +69,7 @@ slice_bounds-ahead-start c =
     let ahead = c.loop-left.ahead.now in
     let begun = cut-begun line c.args.clusters c.args.levels.now c.args.width pieces left ahead c.loop-left.room (left_of c.args.runs.now c.loop-left.reader) (run ∷ later)
     c.begin.ensures.same (c.begin.ensures.within c.loop-left.invariant.within) c.loop-left.invariant in
-    let n = c.count-count.ensures in
+    let n = c.count-count.ensures.number in
     let m = c.first_piece-behind_it.ensures.within in
     let least = c.min-most.ensures in
     let long = level-each line c.args.clusters c.args.levels.now c.args.width pieces left ahead c.loop-left.room run later begun c.count-count.result (omega arith) (omega arith) in
@@ -77,7 +77,7 @@ slice_bounds-ahead-start c =
 
 pub behind-reader-requires-clause-count : goal.behind-reader-requires-clause-count
 behind-reader-requires-clause-count c =
-    let n = c.count-count.ensures in
+    let n = c.count-count.ensures.number in
     let m = c.first_piece-behind_it.ensures.within in
     let least = c.min-most.ensures in
     omega arith
@@ -88,7 +88,7 @@ behind-reader-requires-clause-within c =
 
 pub overflow_sub-left : goal.overflow_sub-left
 overflow_sub-left c =
-    let n = c.count-count.ensures in
+    let n = c.count-count.ensures.number in
     let m = c.first_piece-behind_it.ensures.within in
     let least = c.min-most.ensures in
     omega arith
@@ -106,7 +106,7 @@ loop-left-preserved c =
     let least = c.min-most.ensures in
     cut-next line c.args.clusters c.args.levels.now c.args.width pieces left ahead c.loop-left.room run later begun c.first_piece-behind_it.result.0 c.min-most.result
     c.first_piece-behind_it.result.1 c.push.new.self.items c.first_piece-behind_it.ensures (omega arith) (omega arith) c.in_ok-push.ensures.items c.count-count.result _ c.behind-reader.result _
-    c.count-count.ensures refl c.behind-reader.ensures (slice-end ahead (c.count-count.result * run.points))
+    c.count-count.ensures.number refl c.behind-reader.ensures (slice-end ahead (c.count-count.result * run.points))
 
 pub returns-clause-spans : goal.returns-clause-spans
 returns-clause-spans c =

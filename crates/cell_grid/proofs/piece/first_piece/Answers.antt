@@ -17,5 +17,6 @@ returns c =
     let few = c.alike-alike.ensures.most in
     let most = c.min-most.ensures in
     let some = c.first_fitting-fit.ensures.some in
-    first-piece c.args.run c.args.levels.now c.args.room c.requires.within (get_or c.args.levels.now 0 0) (fit.count - 1) c.args.most c.alike-alike.result fit (omega arith) c.requires.most
-    c.first_fitting-fit.ensures (omega arith) c.alike-alike.ensures.level c.of-span.result c.of-span.ensures
+    let more = c.of-span.ensures.further in
+    first-piece c.args.run c.args.levels.now c.args.room c.requires.within (get_or c.args.levels.now 0 0) c.args.most c.alike-alike.result fit (omega arith) c.requires.most
+    c.first_fitting-fit.ensures c.alike-alike.ensures.level c.of-span.result c.of-span.ensures.span (omega arith)

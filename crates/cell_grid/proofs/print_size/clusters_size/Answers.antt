@@ -8,15 +8,18 @@ use Rattle.cell_grid.proofs.Sizes.{pieces-size}
 use Rattle.cell_grid.proofs.Steps.{take-whole}
 use Rattle.cell_grid.proofs.print_size.clusters_size.Goals as goal
 
+pub overflow_cast-number : goal.overflow_cast-number
+overflow_cast-number c = let most = c.count-number-end.ensures.most in record { fits = omega arith }
+
 pub entry-entry-requires : goal.entry-entry-requires
 entry-entry-requires c =
-    let count = c.count-number-end.ensures in
+    let count = c.count-number-end.ensures.number in
     let fits = c.requires.columns in
     record { within = omega arith; reach = c.requires.reach; fits = omega arith }
 
 pub cells_size-requires : goal.cells_size-requires
 cells_size-requires c =
-    let count = c.count-number-end.ensures in
+    let count = c.count-number-end.ensures.number in
     entry-slice c.args.text.now c.args.run.now c.requires c.loop-number.number c.entry-entry.result (omega arith) c.entry-entry.ensures
 
 pub loop-number-preserved : goal.loop-number-preserved
@@ -25,7 +28,7 @@ loop-number-preserved c =
     let r = c.args.run.now in
     let n = c.loop-number.number in
     let e = c.entry-entry.result in
-    let count = c.count-number-end.ensures in
+    let count = c.count-number-end.ensures.number in
     let lt : n < cluster_count r = omega arith in
     let more = pieces-size (own_text c.args.tables.now text) (run_entries 0 r) n e e (entry-within text r n lt) (entry-read text r n e e lt c.entry-entry.ensures) in
     omega (arith, c.in_ok-size.ensures, c.in_ok-own.ensures, c.loop-number.invariant, more)
@@ -33,7 +36,7 @@ loop-number-preserved c =
 pub returns : goal.returns
 returns c =
     let r = c.args.run.now in
-    let count = c.count-number-end.ensures in
+    let count = c.count-number-end.ensures.number in
     let len = length-run_entries 0 r in
     let all : length (run_entries 0 r) ≤ c.loop-number.number = omega arith in
     c.loop-number.invariant ∙ ap (λ l. length (flat_map (own_text c.args.tables.now c.args.text.now) l)) (take-whole (run_entries 0 r) c.loop-number.number all)

@@ -14,15 +14,18 @@ use Rattle.cell_grid.proofs.printed.hold_clusters.Goals as goal
 pub loop-number-init : goal.loop-number-init
 loop-number-init g c = record { working = c.requires.working; so_far = but-start (g.W.Sink.written c.args.sink.now) c.args.held.now.bytes }
 
+pub overflow_cast-number : goal.overflow_cast-number
+overflow_cast-number g c = let most = c.count-number-end.ensures.most in record { fits = omega arith }
+
 pub entry-entry-requires : goal.entry-entry-requires
 entry-entry-requires g c =
-    let count = c.count-number-end.ensures in
+    let count = c.count-number-end.ensures.number in
     let fits = c.requires.run.columns in
     record { within = omega arith; reach = c.requires.run.reach; fits = omega arith }
 
 pub hold_cells-requires-clause-entry : goal.hold_cells-requires-clause-entry
 hold_cells-requires-clause-entry g c =
-    let count = c.count-number-end.ensures in
+    let count = c.count-number-end.ensures.number in
     entry-slice c.args.text.now c.args.run.now c.requires.run c.loop-number.number c.entry-entry.result (omega arith) c.entry-entry.ensures
 
 pub loop-number-preserved : goal.loop-number-preserved
@@ -32,7 +35,7 @@ loop-number-preserved g c =
     let f = own_text c.args.tables.now text in
     let n = c.loop-number.number in
     let e = c.entry-entry.result in
-    let count = c.count-number-end.ensures in
+    let count = c.count-number-end.ensures.number in
     let lt : n < cluster_count r = omega arith in
     let before = c.args.held.now.bytes in
     let done = flat_map f (take n (run_entries 0 r)) in
@@ -50,7 +53,7 @@ returns-in_err-hold_cells-clause-err g c =
     let f = own_text c.args.tables.now text in
     let n = c.loop-number.number in
     let e = c.entry-entry.result in
-    let count = c.count-number-end.ensures in
+    let count = c.count-number-end.ensures.number in
     let lt : n < cluster_count r = omega arith in
     let before = c.args.held.now.bytes in
     let done = flat_map f (take n (run_entries 0 r)) in
@@ -63,7 +66,7 @@ pub returns-clause-ok : goal.returns-clause-ok
 returns-clause-ok g c =
     let r = c.args.run.now in
     let f = own_text c.args.tables.now c.args.text.now in
-    let count = c.count-number-end.ensures in
+    let count = c.count-number-end.ensures.number in
     let len = length-run_entries 0 r in
     let all : length (run_entries 0 r) ≤ c.loop-number.number = omega arith in
     subst (λ (l : List Entry). AppendsAllBut (g.W.Sink.written c.args.sink.now) (g.W.Sink.written c.loop-number.sink) (c.args.held.now.bytes ++ flat_map f l) c.loop-number.held.bytes)

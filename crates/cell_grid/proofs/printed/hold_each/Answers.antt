@@ -27,7 +27,7 @@ pub loop-init : goal.loop-init
 loop-init g c =
     let r = c.args.run in
     let last = ap (λ (s : Span). s.end_byte) c.cluster-last.ensures in
-    let same = ends-next c.args.text.now c.args.run c.requires.run c.args.run.further in
+    let same = ends-next c.args.text.now c.args.run c.requires.run c.args.run.span.further in
     let all : cluster_count c.args.run - 0 ≡ cluster_count c.args.run = omega arith in
     record {
       working = c.requires.working;
@@ -40,7 +40,7 @@ overflow_sub-start g c =
     let text = c.args.text.now in
     let r = c.args.run in
     let n = c.loop.counter in
-    let count = c.count-count.ensures in
+    let count = c.count-count.ensures.number in
     let lt : c.loop.counter < cluster_count c.args.run = omega arith in
     let within = within-odd text r c.requires.run c.requires.odd n c.loop.end lt c.loop.invariant.end in
     let size = ap byte_count c.read-first.ensures in
@@ -51,7 +51,7 @@ range-cluster-requires-clause-start_boundary g c = λ _.
     let text = c.args.text.now in
     let r = c.args.run in
     let n = c.loop.counter in
-    let count = c.count-count.ensures in
+    let count = c.count-count.ensures.number in
     let lt : c.loop.counter < cluster_count c.args.run = omega arith in
     subst (IsCharBoundary text) (sym (ap (λ k. c.loop.end - k) (ap byte_count c.read-first.ensures) ∙ start-odd text r c.requires.run c.requires.odd n c.loop.end lt c.loop.invariant.end)) (slice-odd text r c.requires.run c.requires.odd n c.loop.end lt c.loop.invariant.end).start
 
@@ -60,7 +60,7 @@ range-cluster-requires-clause-end_boundary g c =
     let text = c.args.text.now in
     let r = c.args.run in
     let n = c.loop.counter in
-    let count = c.count-count.ensures in
+    let count = c.count-count.ensures.number in
     let lt : c.loop.counter < cluster_count c.args.run = omega arith in
     subst (IsCharBoundary text) (sym (end-odd text r c.requires.run c.requires.odd n c.loop.end lt c.loop.invariant.end)) (slice-odd text r c.requires.run c.requires.odd n c.loop.end lt c.loop.invariant.end).end
 
@@ -69,7 +69,7 @@ loop-preserved g c =
     let text = c.args.text.now in
     let r = c.args.run in
     let n = c.loop.counter in
-    let count = c.count-count.ensures in
+    let count = c.count-count.ensures.number in
     let lt : c.loop.counter < cluster_count c.args.run = omega arith in
     let f : Entry → List ℕ = λ e. slice_of c.args.text.now e.span in
     let e = run_entry 0 r n in
@@ -93,7 +93,7 @@ returns-in_err-hold_text-clause-err g c =
     let text = c.args.text.now in
     let r = c.args.run in
     let n = c.loop.counter in
-    let count = c.count-count.ensures in
+    let count = c.count-count.ensures.number in
     let lt : c.loop.counter < cluster_count c.args.run = omega arith in
     let f : Entry → List ℕ = λ e. slice_of c.args.text.now e.span in
     let e = run_entry 0 r n in
@@ -113,7 +113,7 @@ pub returns-clause-ok : goal.returns-clause-ok
 returns-clause-ok g c =
     let r = c.args.run in
     let f : Entry → List ℕ = λ e. slice_of c.args.text.now e.span in
-    let count = c.count-count.ensures in
+    let count = c.count-count.ensures.number in
     let len = length-run_entries 0 r in
     let all : length (run_entries 0 r) ≤ c.loop.counter = omega arith in
     subst (λ (l : List Entry). AppendsAllBut (g.W.Sink.written c.args.sink.now) (g.W.Sink.written c.loop.sink) (c.args.held.now.bytes ++ flat_map f l) c.loop.held.bytes)

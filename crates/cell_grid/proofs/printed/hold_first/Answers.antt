@@ -15,7 +15,7 @@ use Rattle.cell_grid.proofs.Writing.{on_err}
 use Rattle.cell_grid.proofs.printed.hold_first.Goals as goal
 
 abbrev no_run : ClusterRun
-no_run = record { span = no_span; further = 0; level = 0; columns = 0 }
+no_run = record { span = no_span; level = 0; columns = 0 }
 
 pub returns-then-first-eq0-clause-ok : goal.returns-then-first-eq0-clause-ok
 returns-then-first-eq0-clause-ok g c =

@@ -7,7 +7,7 @@ use Rattle.cell_grid.proofs.Steps.{flat_map-take_next}
 use Rattle.cell_grid.proofs.printed.push_odd_runs.Goals as goal
 
 abbrev no_run : ClusterRun
-no_run = record { span = no_span; further = 0; level = 0; columns = 0 }
+no_run = record { span = no_span; level = 0; columns = 0 }
 
 pub loop-number-preserved : goal.loop-number-preserved
 loop-number-preserved c =

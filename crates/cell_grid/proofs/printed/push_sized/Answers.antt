@@ -13,7 +13,7 @@ pub loop-init : goal.loop-init
 loop-init c =
     let r = c.args.run in
     let last = c.end_byte-end.ensures in
-    let same = ends-next c.args.text.now r c.requires.run r.further in
+    let same = ends-next c.args.text.now r c.requires.run r.span.further in
     let all : cluster_count c.args.run - 0 ≡ cluster_count c.args.run = omega arith in
     record {
       end = last ∙ same ∙ ap (λ k. (run_span r).first_byte + k * byte_count (run_span r)) (sym all);
@@ -24,7 +24,7 @@ loop-init c =
 pub overflow_sub-start : goal.overflow_sub-start
 overflow_sub-start c =
     let n = c.loop.counter in
-    let count = c.count-count.ensures in
+    let count = c.count-count.ensures.number in
     let lt : c.loop.counter < cluster_count c.args.run = omega arith in
     let within = within-odd c.args.text.now c.args.run c.requires.run c.requires.odd n c.loop.end lt c.loop.invariant.end in
     let size = c.requires.bytes in
@@ -35,7 +35,7 @@ range-cluster-requires-clause-start_boundary c = λ _.
     let text = c.args.text.now in
     let r = c.args.run in
     let n = c.loop.counter in
-    let count = c.count-count.ensures in
+    let count = c.count-count.ensures.number in
     let lt : c.loop.counter < cluster_count c.args.run = omega arith in
     subst (IsCharBoundary text) (sym (ap (λ k. c.loop.end - k) c.requires.bytes ∙ start-odd text r c.requires.run c.requires.odd n c.loop.end lt c.loop.invariant.end))
     (slice-odd text r c.requires.run c.requires.odd n c.loop.end lt c.loop.invariant.end).start
@@ -45,7 +45,7 @@ range-cluster-requires-clause-end_boundary c =
     let text = c.args.text.now in
     let r = c.args.run in
     let n = c.loop.counter in
-    let count = c.count-count.ensures in
+    let count = c.count-count.ensures.number in
     let lt : c.loop.counter < cluster_count c.args.run = omega arith in
     let within = within-odd text r c.requires.run c.requires.odd n c.loop.end lt c.loop.invariant.end in
     let size = c.requires.bytes in
@@ -56,7 +56,7 @@ range-cluster-requires-clause-end_boundary c =
 pub push_str-requires : goal.push_str-requires
 push_str-requires c =
     let n = c.loop.counter in
-    let count = c.count-count.ensures in
+    let count = c.count-count.ensures.number in
     let lt : c.loop.counter < cluster_count c.args.run = omega arith in
     let left = left-is c.args.text.now c.args.run c.requires.run c.requires.odd n c.loop.end lt c.loop.invariant.end in
     let own = c.requires.bytes in
@@ -69,7 +69,7 @@ loop-preserved c =
     let text = c.args.text.now in
     let r = c.args.run in
     let n = c.loop.counter in
-    let count = c.count-count.ensures in
+    let count = c.count-count.ensures.number in
     let lt : c.loop.counter < cluster_count c.args.run = omega arith in
     let f : Entry → List ℕ = λ e. slice_of c.args.text.now e.span in
     let e = run_entry 0 r n in
@@ -91,7 +91,7 @@ loop-preserved c =
           ∙ sym (ap (λ t. before ++ t) (flat_map-take_next f (run_entries 0 r) n e e (entry-within text r n lt) (entry-read text r n e e lt refl)));
       room =
           let left = left-is text r c.requires.run c.requires.odd n c.loop.end lt c.loop.invariant.end in
-          let e : cluster_count r - (n + 1) ≡ r.further - n = omega arith in
+          let e : cluster_count r - (n + 1) ≡ r.span.further - n = omega arith in
           let later = ap (λ k. k * byte_count (run_span r)) e in
           let len = c.range-cluster.ensures.len in
           let longer = c.push_str.ensures.len in
@@ -103,7 +103,7 @@ pub returns : goal.returns
 returns c =
     let r = c.args.run in
     let f : Entry → List ℕ = λ e. slice_of c.args.text.now e.span in
-    let count = c.count-count.ensures in
+    let count = c.count-count.ensures.number in
     let len = length-run_entries 0 r in
     let all : length (run_entries 0 r) ≤ c.loop.counter = omega arith in
     c.loop.invariant.so_far ∙ ap (λ l. c.args.held.now.bytes ++ flat_map f l) (take-whole (run_entries 0 r) c.loop.counter all)

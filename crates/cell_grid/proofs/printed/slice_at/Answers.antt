@@ -11,7 +11,7 @@ use Rattle.cell_grid.proofs.RunPrinting.{last-slice, run-order}
 use Rattle.cell_grid.proofs.printed.slice_at.Goals as goal
 
 abbrev no_run : ClusterRun
-no_run = record { span = no_span; further = 0; level = 0; columns = 0 }
+no_run = record { span = no_span; level = 0; columns = 0 }
 
 pub loop-number-preserved : goal.loop-number-preserved
 loop-number-preserved c =
@@ -25,7 +25,7 @@ loop-number-preserved c =
     let at = sym (ap (λ (s : Span). s.first_byte) c.read-first.ensures) ∙ c.if-first-end.false in
     let own : run_text c.args.tables.now text r ≡ slice_range text c.loop-number.end c.end_byte-end.result =
     c.prints_its_slice.ensures c.if-not-prints_its_slice.false
-    ∙ ap (λ k. slice_range text k (span_after r.further (run_span r)).end_byte) at ∙ ap (slice_range text c.loop-number.end) (sym last) in
+    ∙ ap (λ k. slice_range text k (span_after r.span.further (run_span r)).end_byte) at ∙ ap (slice_range text c.loop-number.end) (sym last) in
     record {
       order = omega (arith, c.loop-number.invariant.order);
       boundary = subst (IsCharBoundary text) (sym last) (last-slice text r h).end;

@@ -12,7 +12,7 @@ use Rattle.cell_grid.proofs.run_count.run_count.Goals as goal
 use Rattle.cell_grid.proofs.run_count.run_count.Goals.{then-not-goes_on, else-not-goes_on}
 
 abbrev no_run : ClusterRun
-no_run = record { span = no_span; further = 0; level = 0; columns = 0 }
+no_run = record { span = no_span; level = 0; columns = 0 }
 
 pub loop-number-init : goal.loop-number-init
 loop-number-init c =

@@ -8,7 +8,7 @@ use Rattle.cell_grid.proofs.Steps.{drop-none}
 use Rattle.cell_grid.proofs.runs.entry_in.Goals as goal
 
 abbrev no_run : ClusterRun
-no_run = record { span = no_span; further = 0; level = 0; columns = 0 }
+no_run = record { span = no_span; level = 0; columns = 0 }
 
 pub loop-run-init : goal.loop-run-init
 loop-run-init c = record { among = refl; fits = c.requires.fits }

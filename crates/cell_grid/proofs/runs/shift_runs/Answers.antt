@@ -9,7 +9,7 @@ use Rattle.cell_grid.proofs.Steps.{halfway-start, halfway-end, halfway-get, half
 use Rattle.cell_grid.proofs.runs.shift_runs.Goals as goal
 
 abbrev no_run : ClusterRun
-no_run = record { span = no_span; further = 0; level = 0; columns = 0 }
+no_run = record { span = no_span; level = 0; columns = 0 }
 
 pub loop-run-init : goal.loop-run-init
 loop-run-init c = halfway-start (shifted_run c.args.bytes c.args.places) c.args.runs.now
@@ -28,7 +28,7 @@ loop-run-preserved c =
     let i = c.loop-run.run-index in
     let here = ap (λ rs. get_or rs i no_run) c.loop-run.invariant ∙ halfway-get f c.args.runs.now i no_run c.loop-run-test.true in
     let old = get_or c.loop-run.runs i no_run in
-    let new : ClusterRun = record { span = c.later-run.result; further = old.further; level = old.level; columns = old.columns } in
+    let new : ClusterRun = record { span = c.later-run.result; level = old.level; columns = old.columns } in
     ap (λ rs. set rs i new) c.loop-run.invariant
     ∙ halfway-set f c.args.runs.now i no_run new c.loop-run-test.true
     (ap (λ (s : KeptSpan). record old { span = s }) c.later-run.ensures ∙ ap f here)

@@ -16,7 +16,7 @@ invariant-loop-end l = record {
   needed : l.number < l.end → length (rows_of_texts l.tables l.width l.base (slice_range (paragraphs_in l.fn.buffer) l.number (l.end - 1))) < l.wanted;
   few : l.rows ≤ 5_000_000;
   weight_is : l.weight ≡ rows_weight (rows_of_texts l.tables l.width l.base (slice_range (paragraphs_in l.fn.buffer) l.number l.end));
-  most : l.weight ≤ 64_000_048 * l.rows;
+  most : l.weight ≤ 56_000_048 * l.rows;
   held_is : weight_held l.buffer ≡ weight_held l.fn.buffer + l.made;
   made_few : l.made ≤ l.weight;
   laid_are : l.laid ≡ count_by not (slice_range (flags l.fn.buffer) l.number l.end);

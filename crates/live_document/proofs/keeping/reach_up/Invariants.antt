@@ -14,7 +14,7 @@ invariant-loop-first l = record {
   needed : l.first < l.number → length (rows_of_texts l.tables l.width l.base (slice_range (paragraphs_in l.fn.buffer) (l.first + 1) l.number)) < l.wanted;
   few : l.rows ≤ 5_000_000;
   weight_is : l.weight ≡ rows_weight (rows_of_texts l.tables l.width l.base (slice_range (paragraphs_in l.fn.buffer) l.first l.number));
-  most : l.weight ≤ 64_000_048 * l.rows;
+  most : l.weight ≤ 56_000_048 * l.rows;
   held_is : weight_held l.buffer ≡ weight_held l.fn.buffer + l.made;
   made_few : l.made ≤ l.weight;
   laid_are : l.laid ≡ count_by not (slice_range (flags l.fn.buffer) l.first l.number);

@@ -17,7 +17,7 @@ overflow_mul-result c =
     let r = c.args.self.now in
     let order = kept-order r.span in
     let e : (run_span r).end_byte ≡ (run_span r).first_byte + byte_count (run_span r) = omega arith in
-    let all = sizes-end r.further c.count.result (run_span r).first_byte (run_span r).end_byte (byte_count (run_span r)) _ c.count.ensures (ap byte_count c.read-first.ensures) e in
+    let all = sizes-end r.span.further c.count.result (run_span r).first_byte (run_span r).end_byte (byte_count (run_span r)) _ c.count.ensures.number (ap byte_count c.read-first.ensures) e in
     let fits = c.requires.end_byte in
     omega arith
 
@@ -26,7 +26,7 @@ overflow_add-result c =
     let r = c.args.self.now in
     let order = kept-order r.span in
     let e : (run_span r).end_byte ≡ (run_span r).first_byte + byte_count (run_span r) = omega arith in
-    let all = sizes-end r.further c.count.result (run_span r).first_byte (run_span r).end_byte (byte_count (run_span r)) _ c.count.ensures (ap byte_count c.read-first.ensures) e in
+    let all = sizes-end r.span.further c.count.result (run_span r).first_byte (run_span r).end_byte (byte_count (run_span r)) _ c.count.ensures.number (ap byte_count c.read-first.ensures) e in
     let first = ap (λ (s : Span). s.first_byte) c.read-first.ensures in
     let fits = c.requires.end_byte in
     omega arith
@@ -37,4 +37,4 @@ returns c =
     let order = kept-order r.span in
     let e : (run_span r).end_byte ≡ (run_span r).first_byte + byte_count (run_span r) = omega arith in
     ap (λ (s : Span). s.first_byte + c.count.result * (c.read-first.result.end_byte - c.read-first.result.first_byte)) c.read-first.ensures
-    ∙ sizes-end r.further c.count.result (run_span r).first_byte (run_span r).end_byte (byte_count (run_span r)) _ c.count.ensures (ap byte_count c.read-first.ensures) e
+    ∙ sizes-end r.span.further c.count.result (run_span r).first_byte (run_span r).end_byte (byte_count (run_span r)) _ c.count.ensures.number (ap byte_count c.read-first.ensures) e

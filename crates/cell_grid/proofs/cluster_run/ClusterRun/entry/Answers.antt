@@ -9,14 +9,14 @@ use Rattle.cell_grid.proofs.cluster_run.ClusterRun.entry.Goals as goal
 pub overflow_mul-before : goal.overflow_mul-before
 overflow_mul-before c =
     let all = columns-within c.args.self.now c.args.number c.requires.within in
-    let is = ap (λ n. c.args.number * n) c.from.ensures in
+    let is = ap (λ n. n * c.from-2.result) c.from.ensures ∙ ap (λ n. c.args.number * n) c.from-2.ensures in
     let fits = c.requires.fits in
     omega arith
 
 pub overflow_add-column : goal.overflow_add-column
 overflow_add-column c =
     let all = columns-within c.args.self.now c.args.number c.requires.within in
-    let is = ap (λ n. c.args.number * n) c.from.ensures in
+    let is = ap (λ n. n * c.from-2.result) c.from.ensures ∙ ap (λ n. c.args.number * n) c.from-2.ensures in
     let fits = c.requires.fits in
     omega arith
 
@@ -24,5 +24,6 @@ pub returns : goal.returns
 returns c =
     let r = c.args.self.now in
     let make : Span → ℕ → Entry = λ span before. record { span = span; column = c.args.column + before; level = r.level; columns = r.columns } in
-    ap (λ s. make s (c.args.number * c.from.result)) (c.cluster-span.ensures ∙ ap (λ k. span_after k (run_span r)) c.cluster_from_left-cluster.ensures.which)
-    ∙ ap (λ n. make (span_after (cluster_from_left r c.args.number) (run_span r)) (c.args.number * n)) c.from.ensures
+    ap (λ s. make s (c.from.result * c.from-2.result)) (c.cluster-span.ensures ∙ ap (λ k. span_after k (run_span r)) c.cluster_from_left-cluster.ensures.which)
+    ∙ ap (λ n. make (span_after (cluster_from_left r c.args.number) (run_span r)) (n * c.from-2.result)) c.from.ensures
+    ∙ ap (λ n. make (span_after (cluster_from_left r c.args.number) (run_span r)) (c.args.number * n)) c.from-2.ensures

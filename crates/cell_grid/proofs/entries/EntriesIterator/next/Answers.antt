@@ -7,7 +7,7 @@ use Rattle.cell_grid.proofs.Passing.{some-runs, none-left, passed-within, fits-f
 use Rattle.cell_grid.proofs.entries.EntriesIterator.next.Goals as goal
 
 abbrev no_run : ClusterRun
-no_run = record { span = no_span; further = 0; level = 0; columns = 0 }
+no_run = record { span = no_span; level = 0; columns = 0 }
 
 pub returns-then-is_empty-clause-steps : goal.returns-then-is_empty-clause-steps
 returns-then-is_empty-clause-steps c =

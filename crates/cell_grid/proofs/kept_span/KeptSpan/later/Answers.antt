@@ -3,8 +3,8 @@ use Rattle.std.proofs.Common.{arith}
 use Rattle.cell_grid.proofs.KeptSpans.{begins}
 use Rattle.cell_grid.proofs.kept_span.KeptSpan.later.Goals as goal
 
-pub overflow_add-result : goal.overflow_add-result
-overflow_add-result c = let h = begins c.args.bytes c.args.places c.args.self c.requires in omega (arith, h.byte)
+pub high-requires-clause-number : goal.high-requires-clause-number
+high-requires-clause-number c = let h = begins c.args.bytes c.args.places c.args.self c.requires in omega (arith, h.byte, c.whole.ensures)
 
-pub overflow_add-result-2 : goal.overflow_add-result-2
-overflow_add-result-2 c = let h = begins c.args.bytes c.args.places c.args.self c.requires in omega (arith, h.place)
+pub high-requires-2-clause-number : goal.high-requires-2-clause-number
+high-requires-2-clause-number c = let h = begins c.args.bytes c.args.places c.args.self c.requires in omega (arith, h.place, c.whole-2.ensures)
