@@ -291,7 +291,7 @@ uint32_t bidigrid_document_set_base(bidigrid_document *document, uint32_t base);
 
 /* Rows are kept once they are laid out, in the memory of those of four windows, or of so many where these are more, at most
  * BIDIGRID_MAX_OPERATIONS, each counted with 20 bytes for each column. Where all rows of a text are kept, only
- * what changes is laid out again, however far apart the windows are; that takes 16 bytes for each run. What is shown stays. */
+ * what changes is laid out again, however far apart the windows are; that takes 14 bytes for each run. What is shown stays. */
 uint32_t bidigrid_document_keep_rows(bidigrid_document *document, size_t rows);
 
 /* As bidigrid_desk_insert, _erase and _replace. Where those take no memory, these are not refused for lack of it: what

@@ -1,4 +1,4 @@
--- A product of numbers of 17 and 8 bits.
+-- A product of numbers of 9 and 8 bits.
 use Rattle.std.proofs.Common.{◌≤◌, ◌+◌, ◌*◌, ap, ◌∙◌, arith}
 use Rattle.std.proofs.lemmas.Nat.{mul-le}
 use Rattle.cell_grid.proofs.cluster_run.ClusterRun.all_columns.Goals as goal
