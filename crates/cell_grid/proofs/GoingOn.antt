@@ -1,6 +1,7 @@
 -- Runs that go on where others end.
-use Rattle.std.proofs.Common.{◌≡◌, ℕ, zero, suc, ◌+◌, ◌-◌, ◌*◌, ◌<◌, ◌≤◌, Bool, true, false, cond, ◌&&◌, ◌==◌, List, [], ◌∷◌, ◌++◌, map, length, take, get_or, refl, sym, ap, ◌∙◌, arith, append_assoc, append-nil}
+use Rattle.std.proofs.Common.{◌≡◌, ℕ, zero, suc, ◌+◌, ◌-◌, ◌*◌, ◌<◌, ◌≤◌, Bool, true, false, cond, ◌&&◌, ◌==◌, ◌⊎◌, inl, inr, List, [], ◌∷◌, ◌++◌, map, length, take, get_or, refl, sym, ap, ◌∙◌, arith, append_assoc, append-nil}
 use Rattle.std.proofs.lemmas.Bool.{and_left, and_right, eq-eqb, ne_eqb, cond-true, cond-false}
+use Rattle.std.proofs.lemmas.Bool.Decides.{eqb_tells}
 use Rattle.std.proofs.lemmas.List.FromFn.{map-range_with_len_more}
 use Rattle.std.specs.List.{range_with_len}
 use Rattle.reorder.specs.VisualList.{is_odd}
@@ -78,7 +79,39 @@ module _ (column : ℕ) (r : ClusterRun) where
   pub entries-last : run_entries column r ≡ map (run_entry column r) (range_with_len 0 r.span.further) ++ run_entry column r r.span.further ∷ []
   entries-last = map-range_with_len_more (run_entry column r) 0 r.span.further r.span.further (omega arith)
 
+-- ---- spans of other sizes
+
+abbrev Told : (a b : ℕ) → Type 0
+Told a b = (((a == b) ≡ true) × (a ≡ b)) ⊎ (((a == b) ≡ false) × (a ≡ b → ⊥))
+
+apart-by : (s t : Span) → (byte_count s ≡ byte_count t → ⊥) → Told (span_behind s).first_byte t.first_byte → Told (span_behind s).end_byte t.end_byte
+    → same_span (span_behind s) t ≡ false
+apart-by s t other first end =
+    let u = span_behind s in
+    let a = u.first_byte == t.first_byte in
+    let b = u.end_byte == t.end_byte in
+    let c = u.first_place == t.first_place in
+    let d = u.end_place == t.end_place in
+    elim first as (λ _. (a && b && c && d) ≡ false) [
+      | inl same ↦ elim end as (λ _. (a && b && c && d) ≡ false) [
+        | inl too ↦ absurd (other (omega (arith, same.1, too.1)))
+        | inr off ↦ and_left (a && b && c) d (and_left (a && b) c (and_right a b off.0))
+      ]
+      | inr off ↦ and_left (a && b && c) d (and_left (a && b) c (and_left a b off.0))
+    ]
+
+-- the span behind one isn't one of another size
+apart : (s t : Span) → (byte_count s ≡ byte_count t → ⊥) → same_span (span_behind s) t ≡ false
+apart s t other = apart-by s t other (eqb_tells _ _) (eqb_tells _ _)
+
+size-after : (k : ℕ) (s : Span) → byte_count (span_after k s) ≡ byte_count s
+size-after k s = omega arith
+
 -- ---- the last entry of a run, and the first of another
+
+both : (b x y : Bool) → x ≡ false → y ≡ false → cond b x y ≡ false
+both true x y e f = e
+both false x y e f = f
 
 module _ (l r : ClusterRun) (column next : ℕ) where
   abbrev left : Span
@@ -98,6 +131,16 @@ module _ (l r : ClusterRun) (column next : ℕ) where
 
   pub other-columns : (l.columns ≡ r.columns → ⊥) → go_on ≡ false
   other-columns ne = and_left ((l.level == r.level) && (l.columns == r.columns)) behind (and_right (l.level == r.level) (l.columns == r.columns) (ne_eqb l.columns r.columns ne))
+
+  pub other-sizes : (byte_count (run_span l) ≡ byte_count (run_span r) → ⊥) → go_on ≡ false
+  other-sizes ne =
+      let i = cluster_from_left l l.span.further in
+      let j = cluster_from_left r 0 in
+      let l_size = size-after i (run_span l) in
+      let r_size = size-after j (run_span r) in
+      let odd = apart right left (λ e. ne (omega (arith, e, l_size, r_size))) in
+      let even = apart left right (λ e. ne (omega (arith, e, l_size, r_size))) in
+      and_right ((l.level == r.level) && (l.columns == r.columns)) behind (both (is_odd l.level) (same_span (span_behind right) left) (same_span (span_behind left) right) odd even)
 
   alike : l.level ≡ r.level → l.columns ≡ r.columns → go_on ≡ behind
   alike level columns =

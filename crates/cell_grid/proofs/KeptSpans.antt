@@ -1,6 +1,6 @@
 -- Stored spans, moved later.
 use Rattle.std.proofs.Common.{◌≡◌, ◌≤◌, ◌+◌, ◌*◌, ◌%◌, ◌<◌, ℕ, ap, ◌∙◌, arith}
-use Rattle.cell_grid.specs.KeptSpans.{number_of, high_of, points_of, span_kept, kept_later}
+use Rattle.cell_grid.specs.KeptSpans.{number_of, high_of, span_kept, kept_later}
 use Rattle.cell_grid.specs.Shifting.{MayShift}
 use Rattle.cell_grid.specs.Spans.{shifted_span}
 use Rattle.cell_grid.specs.declared.kept_span.KeptSpan.{KeptSpan}

@@ -1,7 +1,8 @@
 //! Where clusters stand, as a row keeps it.
 
-ghost use Rattle.std.specs.Prelude.{◌≡◌, ◌+◌, ◌*◌, ◌/◌, ◌%◌, ◌^◌, ◌<◌};
+ghost use Rattle.std.specs.Prelude.{◌≡◌, ◌+◌, ◌*◌, ◌/◌, ◌%◌, ◌^◌, ◌<◌, true};
 ghost use Rattle.cell_grid.specs.KeptSpans.{number_of, high_of, points_of, span_kept, kept_later, IsShort};
+ghost use Rattle.cell_grid.specs.Runs.{byte_count};
 ghost use Rattle.cell_grid.specs.Shifting.{MayShift};
 
 use paragraphs::Span;
@@ -106,6 +107,14 @@ impl KeptSpan {
         let second = u32::from(self.place_high) % SHARE * SHARE;
         let third = u32::from(self.bytes_high) % SHARE * (SHARE * SHARE);
         (first + second + third) * LOW + u32::from(self.points)
+    }
+
+    /// Whether their low bits tell that another span has another size. They are in most cases what differs.
+    #[inline]
+    pub(crate) fn differs_in_size(self, other: KeptSpan) -> bool
+        ensures { result ≡ true → ¬ (byte_count (span_kept self) ≡ byte_count (span_kept other)) }
+    {
+        self.bytes != other.bytes
     }
 
     /// What is stored of the span this many bytes and places later.

@@ -38,6 +38,9 @@ fn goes_on(left: &ClusterRun, right: &ClusterRun) -> bool
     if left.columns != right.columns {
         return false;
     }
+    if left.span.differs_in_size(right.span) {
+        return false;
+    }
     if left.level % 2 == 1 {
         // What stands further right stands earlier in the text.
         return is_next(right.cluster(right.span.further), left.span.read());

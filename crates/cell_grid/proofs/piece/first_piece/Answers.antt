@@ -1,5 +1,5 @@
 -- As many clusters as are alike, cut where columns hang.
-use Rattle.std.proofs.Common.{◌+◌, ◌-◌, ◌≤◌, get_or, arith}
+use Rattle.std.proofs.Common.{◌+◌, ◌≤◌, get_or, arith}
 use Rattle.cell_grid.proofs.PieceCuts.{reach-one, first-piece}
 use Rattle.cell_grid.proofs.piece.first_piece.Goals as goal
 

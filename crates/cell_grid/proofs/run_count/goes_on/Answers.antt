@@ -3,7 +3,7 @@ use Rattle.std.proofs.Common.{sym, ap, ◌∙◌, arith}
 use Rattle.std.proofs.lemmas.Bool.{eq-eqb, ne_eqb}
 use Rattle.cell_grid.specs.RunCounts.{span_behind, same_span}
 use Rattle.cell_grid.specs.Runs.{run_span}
-use Rattle.cell_grid.proofs.GoingOn.{other-level, other-columns, goes-odd, goes-even}
+use Rattle.cell_grid.proofs.GoingOn.{other-level, other-columns, other-sizes, goes-odd, goes-even}
 use Rattle.cell_grid.proofs.run_count.goes_on.Goals as goal
 
 pub returns-then-left-right : goal.returns-then-left-right
@@ -11,6 +11,9 @@ returns-then-left-right c = λ column next. sym (other-level c.args.left.now c.a
 
 pub returns-then-left-right-2 : goal.returns-then-left-right-2
 returns-then-left-right-2 c = λ column next. sym (other-columns c.args.left.now c.args.right.now column next c.if-left-right-2.true)
+
+pub returns-then-differs_in_size : goal.returns-then-differs_in_size
+returns-then-differs_in_size c = λ column next. sym (other-sizes c.args.left.now c.args.right.now column next (c.differs_in_size.ensures c.if-differs_in_size.true))
 
 pub returns-then-left-eq1 : goal.returns-then-left-eq1
 returns-then-left-eq1 c = λ column next.

@@ -1,6 +1,6 @@
 -- The number of the low and the high bits of each.
-use Rattle.std.proofs.Common.{◌+◌, ap, ◌∙◌, arith}
-use Rattle.cell_grid.specs.KeptSpans.{number_of, points_of, span_kept}
+use Rattle.std.proofs.Common.{◌+◌, ap, ◌∙◌}
+use Rattle.cell_grid.specs.KeptSpans.{number_of, span_kept}
 use Rattle.cell_grid.proofs.Alone.{span-is}
 use Rattle.cell_grid.proofs.kept_span.KeptSpan.read.Goals as goal
 
