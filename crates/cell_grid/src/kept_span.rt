@@ -8,27 +8,28 @@ ghost use Rattle.cell_grid.specs.Shifting.{MayShift};
 use paragraphs::Span;
 use std::mem::size_of;
 
-/// A number has 22 bits. How many values its low 16 have, which stand alone.
+/// A number has 22 bits: its low 16, which have so many values, stand alone, and its high 6 in a byte.
 const LOW: u32 = 65_536;
 
-/// How many values the 2 bits have that stand in a byte below the high 6 of a number: they are of the high 6 of the code points.
+/// How many values the 2 bits below them have.
 const SHARE: u32 = 4;
 
 /// A span whose numbers have at most 22 bits, and how many more of its size follow it, in 12 bytes.
 #[derive(Clone, Copy, Debug)]
 pub(crate) struct KeptSpan {
-    /// Where it begins.
+    /// The low bits of where it begins.
     byte: u16,
-    /// The place where it begins.
+    /// The low bits of the place where it begins.
     place: u16,
-    /// How many bytes it has.
+    /// The low bits of how many bytes it has.
     bytes: u16,
-    /// How many code points it has.
+    /// The low bits of how many code points it has.
     points: u16,
+    /// The high bits of the first three, and below each two of those of the last.
     byte_high: u8,
     place_high: u8,
     bytes_high: u8,
-    /// Not a part of the span, but nowhere else is a byte left for it.
+    /// It is no part of the span, but stands here, as no byte would be left for it elsewhere.
     pub(crate) further: u8,
 }
 
