@@ -1,4 +1,4 @@
-//! Keys in live documents, each of which is followed by the window at its place.
+//! Keys in live documents, each of which is followed by the caret and the window at its place.
 
 use anyhow::Result;
 use bg_types::{Base, Op};
@@ -87,11 +87,13 @@ fn press(document: &mut Document, key: &Key, made: &mut Vec<Op>) -> Result<()> {
     Ok(())
 }
 
-/// Presses a key, and lays out the window at its place.
+/// Presses a key, asks for the position of the caret at its place, and lays out the window there.
 #[inline(never)]
 pub fn press_and_show(document: &mut Document, key: &Key, made: &mut Vec<Op>) -> Result<()> {
     press(document, key, made)?;
-    show(document, key.place())
+    let place = key.place().min(document.len());
+    document.position_at(place)?;
+    show(document, place)
 }
 
 /// Lays out the window at a place.
