@@ -282,7 +282,7 @@ uint32_t bidigrid_document_new(bidigrid_document *out, const bidigrid_tables *ta
 /* A document that goes on from a file, as bidigrid_desk_open. */
 uint32_t bidigrid_document_open(bidigrid_document *out, const bidigrid_tables *tables, uint32_t site, uint32_t width,
                                 uint32_t base, uint64_t key_high, uint64_t key_low, const uint8_t *file,
-                                size_t file_size, bidigrid_taken *told);
+                                size_t file_size, bidigrid_taken *taken);
 void bidigrid_document_free(bidigrid_document *document);
 
 /* Another width, or another base direction, from now on. Then nothing is shown. */
@@ -307,7 +307,7 @@ uint32_t bidigrid_document_replace(bidigrid_document *document, size_t from, siz
 /* As bidigrid_desk_take and _merge. Then nothing is shown, but after a message of which nothing was taken.
  * bidigrid_document_changes tells what it changed in the text. */
 uint32_t bidigrid_document_take(bidigrid_document *document, const uint8_t *message, size_t message_size,
-                                bidigrid_taken *told);
+                                bidigrid_taken *taken);
 uint32_t bidigrid_document_merge(bidigrid_document *document, const bidigrid_document *other);
 
 /* One change of a text: a character was put at a place, or the one there was cut. Each place counts in the text as
@@ -399,7 +399,7 @@ uint32_t bidigrid_desk_new(bidigrid_desk *out, uint32_t site, uint64_t key_high,
  * messages of its own that went out: from an older one it would give identifiers twice, and others would answer
  * BIDIGRID_FAULT_IDENTIFIER_REUSED for good. Save before you send, or take a new site. */
 uint32_t bidigrid_desk_open(bidigrid_desk *out, uint32_t site, uint64_t key_high, uint64_t key_low,
-                            const uint8_t *file, size_t file_size, bidigrid_taken *told);
+                            const uint8_t *file, size_t file_size, bidigrid_taken *taken);
 void bidigrid_desk_free(bidigrid_desk *desk);
 
 /* Types a character, a Unicode scalar, at a place, 0 to the text's length, and writes the message to send. After
@@ -425,7 +425,7 @@ uint32_t bidigrid_desk_replace(bidigrid_desk *desk, size_t from, size_t to, cons
 /* Takes a message, an operation file of any version (FORMATS.md). Its bytes are read whole first: a fault in them,
  * 301 to 311, changes nothing. Then its operations are taken in order; the first that is refused ends it, and those
  * before it stay taken. A message may come again, and before those that it builds on. */
-uint32_t bidigrid_desk_take(bidigrid_desk *desk, const uint8_t *message, size_t message_size, bidigrid_taken *told);
+uint32_t bidigrid_desk_take(bidigrid_desk *desk, const uint8_t *message, size_t message_size, bidigrid_taken *taken);
 
 /* Takes all that another desk has; a desk that is merged with itself stays as it is. After
  * BIDIGRID_FAULT_IDENTIFIER_REUSED nothing has changed; after BIDIGRID_FAULT_FULL and BIDIGRID_FAULT_MEMORY some of

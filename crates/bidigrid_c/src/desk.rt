@@ -42,15 +42,15 @@ pub extern "C" fn bidigrid_desk_open(
     key_high: u64,
     key_low: u64,
     file: &[u8],
-    told: &mut Taken,
+    taken: &mut Taken,
 ) -> u32
-    ensures ok { result ≡ 0 → IfSome out.new.held (λ d. IsMessageTaken (fresh site) file.now d told.new 0) }
+    ensures ok { result ≡ 0 → IfSome out.new.held (λ d. IsMessageTaken (fresh site) file.now d taken.new 0) }
     ensures held { result ≡ 0 → out.new.held ≡ None → ⊥ }
     ensures sound { result ≡ 0 → IsSite site }
     ensures err { (result ≡ 0 → ⊥) → out.new.held ≡ out.old.held }
-    ensures fault { (result ≡ 0 → ⊥) → IsRefusedOpening site file.now told.new result }
+    ensures fault { (result ≡ 0 → ⊥) → IsRefusedOpening site file.now taken.new result }
 {
-    match opened(alloc, site, key_high, key_low, file, told) {
+    match opened(alloc, site, key_high, key_low, file, taken) {
         Ok(boxed) => {
             out.put(alloc, boxed);
             OK

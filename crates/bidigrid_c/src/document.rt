@@ -63,22 +63,22 @@ pub extern "C" fn bidigrid_document_open(
     key_high: u64,
     key_low: u64,
     file: &[u8],
-    told: &mut Taken,
+    taken: &mut Taken,
 ) -> u32
-    ensures ok { result ≡ 0 → IfSome tables.old.held (λ t. IfSome out.new.held (IsOpened t site width base file.now told.new)) }
+    ensures ok { result ≡ 0 → IfSome tables.old.held (λ t. IfSome out.new.held (IsOpened t site width base file.now taken.new)) }
     ensures held { result ≡ 0 → out.new.held ≡ None → ⊥ }
     ensures sound { result ≡ 0 → IsSite site × IsWidth width }
     ensures err { (result ≡ 0 → ⊥) → out.new.held ≡ out.old.held }
-    ensures fault { (result ≡ 0 → ⊥) → IfSome tables.old.held (λ _. IsNotOpened site width base file.now told.new result) }
-    ensures empty { tables.old.held ≡ None → (result ≡ 101) × (told.new ≡ none_taken 0) }
+    ensures fault { (result ≡ 0 → ⊥) → IfSome tables.old.held (λ _. IsNotOpened site width base file.now taken.new result) }
+    ensures empty { tables.old.held ≡ None → (result ≡ 101) × (taken.new ≡ none_taken 0) }
     ensures tables { tables.new.held ≡ tables.old.held }
 {
-    *told = none_taken(0);
+    *taken = none_taken(0);
     let Some(held) = tables.take(alloc) else {
         return EMPTY_HANDLE;
     };
     let made = opened(
-        alloc, &held, site, width, base, key_high, key_low, file, told,
+        alloc, &held, site, width, base, key_high, key_low, file, taken,
     );
     tables.put(alloc, held);
     match made {

@@ -18,18 +18,18 @@ pub extern "C" fn bidigrid_document_take(
     alloc: Global,
     document: &mut DocumentHandle,
     bytes: &[u8],
-    told: &mut Taken,
+    taken: &mut Taken,
 ) -> u32
-    ensures taken { IfSome document.old.held (λ d. IfSome document.new.held (λ e. IsHeard d bytes.now e told.new result)) }
+    ensures taken { IfSome document.old.held (λ d. IfSome document.new.held (λ e. IsHeard d bytes.now e taken.new result)) }
     ensures too_long { IfSome document.old.held (λ _. IsTooLong bytes.now → result ≡ 116) }
-    ensures empty { document.old.held ≡ None → (result ≡ 101) × (document.new.held ≡ None) × (told.new ≡ none_taken 0) }
+    ensures empty { document.old.held ≡ None → (result ≡ 101) × (document.new.held ≡ None) × (taken.new ≡ none_taken 0) }
     ensures held { document.new.held ≡ None → document.old.held ≡ None }
 {
     let Some(mut held) = document.take(alloc) else {
-        *told = none_taken(0);
+        *taken = none_taken(0);
         return EMPTY_HANDLE;
     };
-    let answer = take_in(alloc, &mut held, bytes, told);
+    let answer = take_in(alloc, &mut held, bytes, taken);
     document.put(alloc, held);
     answer
 }

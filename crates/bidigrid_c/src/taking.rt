@@ -16,18 +16,18 @@ pub extern "C" fn bidigrid_desk_take(
     alloc: Global,
     desk: &mut DeskHandle,
     bytes: &[u8],
-    told: &mut Taken,
+    taken: &mut Taken,
 ) -> u32
-    ensures taken { IfSome desk.old.held (λ d. IfSome desk.new.held (λ e. IsMessageTaken d bytes.now e told.new result)) }
+    ensures taken { IfSome desk.old.held (λ d. IfSome desk.new.held (λ e. IsMessageTaken d bytes.now e taken.new result)) }
     ensures too_long { IfSome desk.old.held (λ _. IsTooLong bytes.now → result ≡ 116) }
-    ensures empty { desk.old.held ≡ None → (result ≡ 101) × (desk.new.held ≡ None) × (told.new ≡ none_taken 0) }
+    ensures empty { desk.old.held ≡ None → (result ≡ 101) × (desk.new.held ≡ None) × (taken.new ≡ none_taken 0) }
     ensures held { desk.new.held ≡ None → desk.old.held ≡ None }
 {
     let Some(mut held) = desk.take(alloc) else {
-        *told = none_taken(0);
+        *taken = none_taken(0);
         return EMPTY_HANDLE;
     };
-    let answer = take_in(alloc, &mut held, bytes, told);
+    let answer = take_in(alloc, &mut held, bytes, taken);
     desk.put(alloc, held);
     answer
 }

@@ -10,7 +10,7 @@ use Rattle.bg_types.specs.declared.op.OpView.TheVariants.{Erase}
 use Rattle.rga_tree.specs.TextOf.{text, visible, visible_ids}
 use Rattle.op_codec.specs.Spelling.{spelling}
 use Rattle.desk_replica.specs.Desk.{Desk}
-use Rattle.desk_replica.specs.Stretch.{deletions, replacement, IsReplaceRefusal}
+use Rattle.desk_replica.specs.Replacement.{deletions, replacement, IsReplaceRefusal}
 use Rattle.desk_replica.specs.Merging.{with_operations}
 use Rattle.desk_replica.specs.Typing.{IsErasedAt}
 use Rattle.c_answers.specs.Copying.{IsCopied}

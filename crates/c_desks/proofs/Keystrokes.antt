@@ -6,7 +6,7 @@ use Rattle.rga_tree.specs.TextOf.{text, visible}
 use Rattle.op_codec.specs.Spelling.{spelling}
 use Rattle.desk_replica.specs.Desk.{Desk}
 use Rattle.desk_replica.specs.Merging.{with_operations}
-use Rattle.desk_replica.specs.Stretch.{replacement, IsReplaceRefusal}
+use Rattle.desk_replica.specs.Replacement.{replacement, IsReplaceRefusal}
 use Rattle.desk_replica.specs.Typing.{typed, insertion, IsTypeRefusal}
 use Rattle.desk_replica.specs.declared.answer.TypeFault.{TypeFault}
 use Rattle.desk_replica.specs.declared.answer.TypeFault.TheVariants.{CounterSpent, Full, Memory}

@@ -13,7 +13,7 @@ use Rattle.rga_tree.specs.TextOf.{visible, visible_ids}
 use Rattle.op_codec.specs.Spelling.{frame, spelling}
 use Rattle.desk_replica.specs.Desk.{Desk}
 use Rattle.desk_replica.specs.Typing.{parent_at}
-use Rattle.desk_replica.specs.Stretch.{next_id, id_after, insertions, typed_text, deletions, replacement, IsReplaceRefused}
+use Rattle.desk_replica.specs.Replacement.{next_id, id_after, insertions, typed_text, deletions, replacement, IsReplaceRefused}
 use Rattle.desk_replica.specs.Merging.{with_operations}
 use Rattle.desk_replica.specs.declared.answer.TypeFault.{TypeFault}
 use Rattle.desk_replica.specs.declared.answer.TypeFault.TheVariants.{CounterSpent, Full, Memory}

@@ -15,7 +15,7 @@ use Rattle.op_codec.specs.Spelling.{Spells, SpellsIn, spelling}
 use Rattle.pending_ops.specs.Waiting.{ListsOnce}
 use Rattle.desk_replica.specs.Desk.{Desk, fresh}
 use Rattle.desk_replica.specs.Typing.{typed, insertion, IsTypedAt, IsTypeRefusal}
-use Rattle.desk_replica.specs.Stretch.{deletions, replacement, IsReplaceRefusal}
+use Rattle.desk_replica.specs.Replacement.{deletions, replacement, IsReplaceRefusal}
 use Rattle.desk_replica.specs.Merging.{with_operations, IsMerge}
 use Rattle.desk_replica.specs.Listed.{listed}
 use Rattle.desk_replica.specs.declared.answer.TakeFault.{TakeFault}

@@ -62,15 +62,15 @@ pub fn opened(
     key_high: u64,
     key_low: u64,
     file: &[u8],
-    told: &mut Taken,
+    taken: &mut Taken,
 ) -> Result<Box<Desk>, u32>
-    ensures ok { IfOk result (λ boxed. IsMessageTaken (fresh site) file.now boxed.value told.new 0 × IsSite site) }
-    ensures fault { IfErr result (IsRefusedOpening site file.now told.new) }
+    ensures ok { IfOk result (λ boxed. IsMessageTaken (fresh site) file.now boxed.value taken.new 0 × IsSite site) }
+    ensures fault { IfErr result (IsRefusedOpening site file.now taken.new) }
     ensures some { IfErr result (λ fault. 0 < fault) }
 {
-    *told = none_taken(0);
+    *taken = none_taken(0);
     let mut boxed = new_desk(alloc, site, key_high, key_low)?;
-    let answer = take_in(alloc, &mut boxed, file, told);
+    let answer = take_in(alloc, &mut boxed, file, taken);
     if answer == OK { Ok(boxed) } else { Err(answer) }
 }
 

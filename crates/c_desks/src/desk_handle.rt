@@ -19,7 +19,7 @@ pub struct DeskHandle {
 }
 
 impl Model for DeskHandle {
-    ghost use Rattle.c_handles.specs.Held.{owned_at};
+    ghost use Rattle.c_handles.specs.Owned.{owned_at};
     ghost use Rattle.c_desks.specs.Rows.{desk_row};
 
     ghost also_owns = { λ h. owned_at desk_row h.at h.held };

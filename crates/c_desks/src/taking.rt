@@ -31,31 +31,31 @@ fn take_each(desk: &mut Desk, ops: &[Op], taken: &mut usize) -> u32
 
 /// Lets a desk take a message: its bytes are read whole first, and then its operations are taken in order, up to the first that the desk
 /// refuses.
-pub fn take_in(alloc: Global, desk: &mut Desk, bytes: &[u8], told: &mut Taken) -> u32
-    ensures taken { IsMessageTaken desk.old bytes.now desk.new told.new result }
+pub fn take_in(alloc: Global, desk: &mut Desk, bytes: &[u8], taken: &mut Taken) -> u32
+    ensures taken { IsMessageTaken desk.old bytes.now desk.new taken.new result }
     ensures too_long { IsTooLong bytes.now → result ≡ 116 }
 {
-    match read_message(alloc, bytes, told) {
-        Ok(ops) => take_each(desk, &ops, &mut told.taken),
+    match read_message(alloc, bytes, taken) {
+        Ok(ops) => take_each(desk, &ops, &mut taken.taken),
         Err(fault) => fault,
     }
 }
 
 /// The operations of a message, of which none counts as taken yet; or the number of its fault, which is written.
-pub fn read_message(alloc: Global, bytes: &[u8], told: &mut Taken) -> Result<Vec<Op>, u32>
+pub fn read_message(alloc: Global, bytes: &[u8], taken: &mut Taken) -> Result<Vec<Op>, u32>
     ensures ok { IfOk result (λ ops. Spells bytes.now ops.items) }
-    ensures told { IfOk result (λ ops. told.new ≡ record { operations = vec_len ops; taken = 0; frame = 0 }) }
-    ensures fault { IfErr result (IsUnread bytes.now told.new) }
+    ensures written { IfOk result (λ ops. taken.new ≡ record { operations = vec_len ops; taken = 0; frame = 0 }) }
+    ensures fault { IfErr result (IsUnread bytes.now taken.new) }
     ensures some { IfErr result (λ fault. 0 < fault) }
     ensures too_long { IsTooLong bytes.now → MatchResult result (λ _. ⊥) (λ fault. fault ≡ 116) }
 {
     if bytes.len() > LONGEST_FILE {
-        *told = none_taken(0);
+        *taken = none_taken(0);
         return Err(MESSAGE_TOO_LONG);
     }
     match decode_file(alloc, bytes) {
         Ok(ops) => {
-            *told = Taken {
+            *taken = Taken {
                 operations: ops.len(),
                 taken: 0,
                 frame: 0,
@@ -63,7 +63,7 @@ pub fn read_message(alloc: Global, bytes: &[u8], told: &mut Taken) -> Result<Vec
             Ok(ops)
         }
         Err(fault) => {
-            *told = none_taken(fault.frame().unwrap_or(0));
+            *taken = none_taken(fault.frame().unwrap_or(0));
             Err(message_number(fault))
         }
     }

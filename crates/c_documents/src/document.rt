@@ -45,22 +45,22 @@ pub fn opened(
     key_high: u64,
     key_low: u64,
     file: &[u8],
-    told: &mut Taken,
+    taken: &mut Taken,
 ) -> Result<Box<ToldDocument>, u32>
-    requires { told.old ≡ none_taken 0 }
-    ensures ok { IfOk result (λ boxed. IsOpened tables.now site width base file.now told.new boxed.value × IsSite site × IsWidth width) }
-    ensures fault { IfErr result (IsNotOpened site width base file.now told.new) }
+    requires { taken.old ≡ none_taken 0 }
+    ensures ok { IfOk result (λ boxed. IsOpened tables.now site width base file.now taken.new boxed.value × IsSite site × IsWidth width) }
+    ensures fault { IfErr result (IsNotOpened site width base file.now taken.new) }
     ensures some { IfErr result (λ fault. 0 < fault) }
 {
     let mut desk = fresh_desk(alloc, site, key_high, key_low)?;
-    let answer = take_in(alloc, &mut desk, file, told);
+    let answer = take_in(alloc, &mut desk, file, taken);
     if answer != OK {
         return Err(answer);
     }
     match laid_out(alloc, tables, width, base, desk) {
         Ok(document) => Ok(document),
         Err(fault) => {
-            *told = none_taken(0);
+            *taken = none_taken(0);
             Err(fault)
         }
     }

@@ -20,7 +20,7 @@ pub struct DocumentHandle {
 }
 
 impl Model for DocumentHandle {
-    ghost use Rattle.c_handles.specs.Held.{owned_at};
+    ghost use Rattle.c_handles.specs.Owned.{owned_at};
     ghost use Rattle.c_documents.specs.Rows.{document_row};
 
     ghost also_owns = { λ h. owned_at document_row h.at h.held };

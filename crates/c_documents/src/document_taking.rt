@@ -11,13 +11,13 @@ use c_desks::{Taken, read_message, take_number};
 use std::alloc::Global;
 
 /// Lets a document take a message, as its desk would, and list what that changed.
-pub fn take_in(alloc: Global, held: &mut ToldDocument, bytes: &[u8], told: &mut Taken) -> u32
-    ensures taken { IsHeard held.old bytes.now held.new told.new result }
+pub fn take_in(alloc: Global, held: &mut ToldDocument, bytes: &[u8], taken: &mut Taken) -> u32
+    ensures taken { IsHeard held.old bytes.now held.new taken.new result }
     ensures too_long { IsTooLong bytes.now → result ≡ 116 }
 {
     held.forget();
-    match read_message(alloc, bytes, told) {
-        Ok(ops) => take_all(held, &ops, &mut told.taken),
+    match read_message(alloc, bytes, taken) {
+        Ok(ops) => take_all(held, &ops, &mut taken.taken),
         Err(fault) => fault,
     }
 }

@@ -16,7 +16,7 @@ use Rattle.std.specs.declared.option.Option.{Option}
 use Rattle.std.specs.declared.option.Option.TheVariants.{None, Some}
 use Rattle.std.specs.contracts.impls.GlobalAllocator.TheImpl.{ghosts}
 use Rattle.std_alloc.specs.Box.Ownership.{box_owns}
-use Rattle.c_handles.specs.Held.{heap, owned_at}
+use Rattle.c_handles.specs.Owned.{heap, owned_at}
 
 module _ (R : RattleType) where
   abbrev pub boxed_at : ℕ → ℕ → R.Denot → Fml

@@ -15,7 +15,7 @@ pub struct NullableBox<T> {
 }
 
 impl<T> Model for NullableBox<T> {
-    ghost use Rattle.c_handles.specs.Held.{owned_at};
+    ghost use Rattle.c_handles.specs.Owned.{owned_at};
 
     ghost also_owns = { λ b. owned_at T.row b.at b.held };
 }

@@ -18,7 +18,7 @@ pub struct PictureHandle {
 }
 
 impl Model for PictureHandle {
-    ghost use Rattle.c_handles.specs.Held.{owned_at};
+    ghost use Rattle.c_handles.specs.Owned.{owned_at};
     ghost use Rattle.c_pictures.specs.Rows.{picture_row};
 
     ghost also_owns = { λ h. owned_at picture_row h.at h.held };

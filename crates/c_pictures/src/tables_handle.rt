@@ -18,7 +18,7 @@ pub struct TablesHandle {
 }
 
 impl Model for TablesHandle {
-    ghost use Rattle.c_handles.specs.Held.{owned_at};
+    ghost use Rattle.c_handles.specs.Owned.{owned_at};
     ghost use Rattle.c_pictures.specs.Rows.{tables_row};
 
     ghost also_owns = { λ h. owned_at tables_row h.at h.held };

@@ -3,7 +3,7 @@ use Rattle.std.specs.Prelude.{ℕ, List, length}
 use Rattle.bg_types.specs.declared.op.OpView.{OpView}
 use Rattle.rga_tree.specs.TextOf.{visible}
 use Rattle.desk_replica.specs.Desk.{Desk}
-use Rattle.desk_replica.specs.Stretch.{typed_text}
+use Rattle.desk_replica.specs.Replacement.{typed_text}
 
 -- the insertions of characters that are typed at the end of a desk's text, each after the one before
 abbrev pub words_made : Desk → List ℕ → List OpView

@@ -5,7 +5,7 @@ ghost use Rattle.std.specs.Str.{chars};
 ghost use Rattle.rga_tree.specs.TextOf.{text};
 ghost use Rattle.desk_replica.specs.Desk.{fresh};
 ghost use Rattle.desk_replica.specs.Merging.{with_operations};
-ghost use Rattle.desk_replica.specs.Stretch.{IsTextRefused};
+ghost use Rattle.desk_replica.specs.Replacement.{IsTextRefused};
 ghost use Rattle.desk_replica.specs.declared.answer.TypeFault.{TypeFault as Untyped};
 ghost use Rattle.bg_types.specs.OperationSet.{union};
 ghost use Rattle.calling.specs.declared.fault.Fault.TheVariants.{«Type» as type_fault};

@@ -2,7 +2,7 @@
 
 pub const ABOUT: &str =
     "Reads what several desks did to one text, and shows the text or draws it.\n\n\
-    Several desks edit one text, and each keeps what it did in operation files. Desks that hold\n\
+    Several desks edit one text, and each saves what it did in operation files. Desks that have\n\
     the same operations show the same text, whatever the order in which these came.";
 
 /// What `--version` writes after the program's name.
@@ -26,11 +26,11 @@ pub const REPLAY_LONG_ABOUT: &str =
     There are as many desks as files. A schedule says what they do, a line a step; desks, files and\n\
     the operations of a file are counted from 1:\n\n  \
     take D F N  desk D takes operation number N of file F\n  \
-    merge D E   desk D takes all that desk E holds\n  \
+    merge D E   desk D takes all that desk E has\n  \
     show D      the text of desk D is drawn\n\n\
     Empty lines and lines that begin with # are skipped. Without a schedule each desk takes all\n\
-    files, and then each is drawn. Desks that hold the same operations are drawn the same.\n\n\
-    DIR holds DerivedBidiClass.txt, BidiBrackets.txt, BidiMirroring.txt, LineBreak.txt and\n\
+    files, and then each is drawn. Desks that have the same operations are drawn the same.\n\n\
+    DIR has DerivedBidiClass.txt, BidiBrackets.txt, BidiMirroring.txt, LineBreak.txt and\n\
     EastAsianWidth.txt of Unicode. Where they, a file or the schedule are faulty, nothing is\n\
     written. A step that can't be taken ends the run after the texts drawn before it.";
 
@@ -38,7 +38,7 @@ pub const REPLAY_EXAMPLE: &str = "Example:\n  bidigrid replay --ucd examples/ucd
     --schedule examples/three/schedule \\\n    examples/three/english.bgop \
     examples/three/hebrew.bgop examples/three/arabic.bgop";
 
-pub const CARET_ABOUT: &str = "Tells where a caret comes to in a drawn text";
+pub const CARET_ABOUT: &str = "Shows where a caret comes to in a drawn text";
 
 pub const CARET_LONG_ABOUT: &str =
     "Draws the text that the operations of the files make, as replay does, and writes where a caret\n\
@@ -71,7 +71,7 @@ pub const SCHEDULE_HELP: &str = "What the desks do, a line a step, or - for stan
 pub const TYPE_ABOUT: &str = "Writes the operation file of what a site types";
 
 pub const TYPE_LONG_ABOUT: &str =
-    "Writes the operation file of what a site types to standard output: it held all operations of the\n\
+    "Writes the operation file of what a site types to standard output: it had all operations of the\n\
     files, erased N characters from place P on, and typed the text there. Without files the text is\n\
     new. The files and the new one together are then the old text with those N characters replaced\n\
     by the typed ones, whatever the order of the files.\n\n\
@@ -111,7 +111,7 @@ pub const MIGRATE_ABOUT: &str = "Writes an operation file in version 2";
 
 pub const MIGRATE_LONG_ABOUT: &str =
     "Writes the operation file of version 2 that has the same operations to standard output.\n\n\
-    In version 2 insertions that were typed in one go stand in one frame, with four bytes for each\n\
+    In version 2 insertions that were typed in one go are one frame, with four bytes for each\n\
     further one. It is never longer than version 1, and a file of version 2 is written as it is.\n\
     All subcommands read both versions. Where the file is faulty, nothing is written.";
 

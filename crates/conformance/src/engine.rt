@@ -15,7 +15,7 @@ use crate::case::{
 use crate::choice::choice_of;
 use crate::fault::{LineFault, RunFault};
 use crate::field::{content, read_levels, read_places};
-use crate::report::{put_summary, tell_breaks, tell_levels};
+use crate::report::{put_summary, report_breaks, report_levels};
 use crate::tally::{Tally, Verdict};
 use crate::test_file::TestFile;
 use bg_types::{Base, Sink, put_all};
@@ -27,7 +27,7 @@ use ucd_files::Tables;
 const BOUND: u64 = 65_536;
 
 /// How many of the cases that differ are reported.
-const TOLD: u64 = 20;
+const REPORTED: u64 = 20;
 
 /// The bits of a line of `BidiTest.txt`.
 const AUTOMATIC: u8 = 1;
@@ -49,7 +49,7 @@ struct Comparison<'a> {
     /// The case of a line of `LineBreakTest.txt`.
     breaks: BreakCase,
     /// The report of the last case that differed.
-    told: Option<String>,
+    report: Option<String>,
 }
 
 /// Compares the cases of a test file, writes the first 20 that differ, and then the line of
@@ -102,14 +102,14 @@ fn put_text<S: Sink>(out: &mut S, text: &str) -> Result<(), RunFault> {
 }
 
 /// Writes the report of a case of a line.
-fn put_told<S: Sink>(
+fn put_report<S: Sink>(
     alloc: Global,
     kind: TestFile,
     number: u64,
-    told: &str,
+    report: &str,
     out: &mut S,
 ) -> Result<(), RunFault> {
-    let text = format!(in alloc; "{} line {number}: {told}\n", kind.name())?;
+    let text = format!(in alloc; "{} line {number}: {report}\n", kind.name())?;
     put_text(out, text.as_str())
 }
 
@@ -147,7 +147,7 @@ impl<'a> Comparison<'a> {
                 text: String::new(alloc),
                 breaks: Vec::new(alloc),
             },
-            told: None,
+            report: None,
         }
     }
 
@@ -172,8 +172,8 @@ impl<'a> Comparison<'a> {
 
     /// Writes the report of the last case that differed, if there is one.
     fn tell<S: Sink>(&mut self, kind: TestFile, number: u64, out: &mut S) -> Result<(), RunFault> {
-        match self.told.take() {
-            Some(told) => put_told(self.alloc, kind, number, told.as_str(), out),
+        match self.report.take() {
+            Some(report) => put_report(self.alloc, kind, number, report.as_str(), out),
             None => Ok(()),
         }
     }
@@ -208,9 +208,9 @@ impl<'a> Comparison<'a> {
         ensures counted { OnOk result (self.new.tally ≡ counted found.verdict self.old.tally) }
         ensures once { OnOk result (cases_of self.new.tally ≡ cases_of self.old.tally + 1) }
     {
-        let Found { verdict, told } = found;
-        if told.is_some() && self.tally.differ < TOLD {
-            self.told = told;
+        let Found { verdict, report } = found;
+        if report.is_some() && self.tally.differ < REPORTED {
+            self.report = report;
         }
         self.count(verdict)
     }
@@ -277,7 +277,7 @@ impl<'a> Comparison<'a> {
 #[derive(Drop)]
 struct Found {
     verdict: Verdict,
-    told: Option<String>,
+    report: Option<String>,
 }
 
 impl Found {
@@ -286,16 +286,16 @@ impl Found {
     {
         Found {
             verdict,
-            told: None,
+            report: None,
         }
     }
 
-    fn difference(told: String) -> Found
+    fn difference(report: String) -> Found
         ensures { result.verdict ≡ Differs }
     {
         Found {
             verdict: Verdict::Differs,
-            told: Some(told),
+            report: Some(report),
         }
     }
 }
@@ -313,14 +313,14 @@ fn compare_line(
     ensures chosen { IfOk result (λ found. (choice : Choice) → found.verdict ≡ Chosen choice → ⊥) }
 {
     let Some(came) = line_of(alloc, tables, base, text)? else {
-        let told = String::from_str(alloc, "more than one paragraph")?;
-        return Ok(Found::difference(told));
+        let report = String::from_str(alloc, "more than one paragraph")?;
+        return Ok(Found::difference(report));
     };
     let places = wanted_places(alloc, &wanted.levels, &came.order)?;
     if is_as_wanted(wanted, &came, &places) {
         return Ok(Found::of(Verdict::Agrees));
     }
-    Ok(Found::difference(tell_levels(alloc, wanted, &came, &places)?))
+    Ok(Found::difference(report_levels(alloc, wanted, &came, &places)?))
 }
 
 /// Whether the level of the paragraph, the levels and the order are as wanted.
@@ -354,8 +354,8 @@ fn compare_breaks(alloc: Global, tables: &Tables, case: &BreakCase) -> Result<Fo
     match choice_of(alloc, tables, text, &case.breaks, &came)? {
         Some(choice) => Ok(Found::of(Verdict::Chosen(choice))),
         None => {
-            let told = tell_breaks(alloc, text, &case.breaks, &came)?;
-            Ok(Found::difference(told))
+            let report = report_breaks(alloc, text, &case.breaks, &came)?;
+            Ok(Found::difference(report))
         }
     }
 }

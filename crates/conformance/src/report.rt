@@ -8,15 +8,15 @@ use std::alloc::Global;
 use std::fmt::Write;
 
 /// What is wanted of a line of text, and what came.
-pub fn tell_levels(
+pub fn report_levels(
     alloc: Global,
     wanted: &Wanted,
     came: &BidiLine,
     places: &[u32],
 ) -> Result<String, RunFault> {
     let mut text = String::new(alloc);
-    let told = put_line(&mut text, wanted, came, places);
-    told.map(|()| text)
+    let whole = put_line(&mut text, wanted, came, places);
+    whole.map(|()| text)
 }
 
 fn put_line(
@@ -38,27 +38,27 @@ fn put_line(
 }
 
 /// What breaks of a text are wanted, and which came.
-pub fn tell_breaks(
+pub fn report_breaks(
     alloc: Global,
     text: &str,
     wanted: &[bool],
     came: &[bool],
 ) -> Result<String, RunFault> {
-    let mut told = String::new(alloc);
-    let whole = put_breaks(&mut told, text, wanted, came);
-    whole.map(|()| told)
+    let mut report = String::new(alloc);
+    let whole = put_breaks(&mut report, text, wanted, came);
+    whole.map(|()| report)
 }
 
 fn put_breaks(
-    told: &mut String,
+    report: &mut String,
     text: &str,
     wanted: &[bool],
     came: &[bool],
 ) -> Result<(), RunFault> {
-    told.push_str("wanted ×")?;
-    put_marks(told, text, wanted)?;
-    told.push_str(", came ×")?;
-    put_marks(told, text, came)
+    report.push_str("wanted ×")?;
+    put_marks(report, text, wanted)?;
+    report.push_str(", came ×")?;
+    put_marks(report, text, came)
 }
 
 fn put_levels(text: &mut String, levels: &[Option<u8>]) -> Result<(), RunFault> {
@@ -79,7 +79,7 @@ fn put_numbers(text: &mut String, numbers: &[u32]) -> Result<(), RunFault> {
 }
 
 /// Writes code points, each followed by its mark.
-fn put_marks(told: &mut String, text: &str, breaks: &[bool]) -> Result<(), RunFault> {
+fn put_marks(report: &mut String, text: &str, breaks: &[bool]) -> Result<(), RunFault> {
     for (i, c) in text.chars().enumerate() {
         let code = u32::from(c);
         let mark = match breaks.get(i) {
@@ -87,7 +87,7 @@ fn put_marks(told: &mut String, text: &str, breaks: &[bool]) -> Result<(), RunFa
             Some(false) => '×',
             None => '?',
         };
-        write!(told, " {code:04X} {mark}")?;
+        write!(report, " {code:04X} {mark}")?;
     }
     Ok(())
 }

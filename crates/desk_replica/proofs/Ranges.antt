@@ -21,7 +21,7 @@ use Rattle.rga_tree.specs.Spot.{IsVisiblePlace, from_spot}
 use Rattle.rga_tree.proofs.Interface.{Entry, AllWellFormed-with, from_place, shown_elements}
 use Rattle.pending_ops.specs.Waiting.{Waiting}
 use Rattle.desk_replica.specs.Placement.{IsSettled, whole}
-use Rattle.desk_replica.specs.Stretch.{MayHide, deletions}
+use Rattle.desk_replica.specs.Replacement.{MayHide, deletions}
 use Rattle.desk_replica.specs.Merging.{with_operations}
 use Rattle.desk_replica.proofs.Admitting.{hidden_settled, hidden_whole}
 use Rattle.desk_replica.proofs.Erasing.{next_erased, visible_kept}

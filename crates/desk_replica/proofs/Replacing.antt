@@ -24,7 +24,7 @@ use Rattle.desk_replica.specs.Placement.{IsSettled, IsCounted, whole}
 use Rattle.desk_replica.specs.Typing.{parent_at}
 use Rattle.desk_replica.specs.declared.answer.TypeFault.{TypeFault}
 use Rattle.desk_replica.specs.declared.answer.TypeFault.TheVariants.{CounterSpent, Full, Memory}
-use Rattle.desk_replica.specs.Stretch.{IsRangeRefused, IsReplaceRefused, next_id, insertions, typed_text, deletions, replacement}
+use Rattle.desk_replica.specs.Replacement.{IsRangeRefused, IsReplaceRefused, next_id, insertions, typed_text, deletions, replacement}
 use Rattle.desk_replica.specs.Merging.{with_operations}
 use Rattle.desk_replica.proofs.Admitting.{IsContent}
 use Rattle.desk_replica.proofs.Desks.{desk_of}

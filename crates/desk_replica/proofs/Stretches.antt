@@ -23,7 +23,7 @@ use Rattle.rga_tree.proofs.Interface.{Entry, AllWellFormed-with, take-insert, dr
 use Rattle.pending_ops.specs.Waiting.{Waiting}
 use Rattle.desk_replica.specs.Placement.{IsSettled, whole}
 use Rattle.desk_replica.specs.Typing.{parent_at}
-use Rattle.desk_replica.specs.Stretch.{next_id, id_after, insertions, typed_text}
+use Rattle.desk_replica.specs.Replacement.{next_id, id_after, insertions, typed_text}
 use Rattle.desk_replica.specs.Merging.{with_operations}
 use Rattle.desk_replica.proofs.Admitting.{IsContent}
 use Rattle.desk_replica.proofs.Counters.{newest-is_new}

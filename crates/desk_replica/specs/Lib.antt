@@ -5,7 +5,7 @@ pub mod Desk
 pub mod Placement
 pub mod Standing
 pub mod Typing
-pub mod Stretch
+pub mod Replacement
 pub mod Merging
 pub mod Listed
 pub mod Telling

@@ -54,6 +54,6 @@ AreTold s (op ∷ ops) old new = (more : List Change) × IsTold s (with_operatio
 
 -- so many operations are spare, and a list of so many changes has room for what they may tell: one each, and one for each
 -- insertion that waits
-pub record IsPaid (desk : Desk) (count told capacity : ℕ) : Type 0 where
+pub record IsListPaid (desk : Desk) (count told capacity : ℕ) : Type 0 where
   pub spare : count ≤ desk.spare
   pub room : told + count + waiting_count desk.set ≤ capacity

@@ -22,7 +22,7 @@ const FURTHER: usize = 64;
 pub struct Cursor {
     part: usize,
     at: usize,
-    paid: usize,
+    allowed: usize,
     /// How many are read before it is looked up whether one is there: as many as for the one before, and some more.
     near: usize,
 }
@@ -33,14 +33,16 @@ impl Cursor {
         Cursor {
             part: 0,
             at: 0,
-            paid: 0,
+            allowed: 0,
             near: FURTHER,
         }
     }
 
     /// Lets it read own elements for so many of the other desk.
-    pub fn pay(&mut self, count: usize) {
-        self.paid = self.paid.saturating_add(count.saturating_mul(READ_FOR_ONE));
+    pub fn allow(&mut self, count: usize) {
+        self.allowed = self
+            .allowed
+            .saturating_add(count.saturating_mul(READ_FOR_ONE));
     }
 
     /// The elements ahead: the rest of the part, or at its end the next part.
@@ -78,7 +80,7 @@ impl Cursor {
             if self.find_in(rest, id) {
                 return true;
             }
-            if self.paid == 0 {
+            if self.allowed == 0 {
                 return false;
             }
             self.go_on();
@@ -101,22 +103,22 @@ impl Cursor {
 
     /// Moves to the element with this identifier, if that is near. Else it moves on over what is.
     fn find_near<S: Sequence>(&mut self, seq: &S, id: Id) -> bool {
-        let most = self.paid.min(self.near);
-        let rest = self.paid.saturating_sub(most);
-        self.paid = most;
+        let most = self.allowed.min(self.near);
+        let rest = self.allowed.saturating_sub(most);
+        self.allowed = most;
         let found = self.find(seq, id);
         if found {
-            self.near = most.saturating_sub(self.paid).saturating_add(FURTHER);
+            self.near = most.saturating_sub(self.allowed).saturating_add(FURTHER);
         }
-        self.paid = self.paid.saturating_add(rest);
+        self.allowed = self.allowed.saturating_add(rest);
         found
     }
 
     /// Moves on to an element that is there and was not near.
     fn find_further<S: Sequence>(&mut self, seq: &S, id: Id) {
-        let paid = self.paid;
+        let allowed = self.allowed;
         self.find(seq, id);
-        let read = paid.saturating_sub(self.paid);
+        let read = allowed.saturating_sub(self.allowed);
         self.near = self.near.saturating_add(read).saturating_add(FURTHER);
     }
 
@@ -128,13 +130,13 @@ impl Cursor {
 
     /// Moves to the element with this identifier among those that are left of a part, or as far as it may read.
     fn find_in(&mut self, rest: &[Element], id: Id) -> bool
-        ensures paid { self.new.at + self.new.paid ≤ self.old.at + self.old.paid }
+        ensures allowed { self.new.at + self.new.allowed ≤ self.old.at + self.old.allowed }
     {
-        let most = rest.len().min(self.paid);
+        let most = rest.len().min(self.allowed);
         let found = rest[..most].iter().position(|e| e.id == id);
         let passed = found.unwrap_or(most);
         self.at = self.at.saturating_add(passed);
-        self.paid = self.paid.saturating_sub(passed);
+        self.allowed = self.allowed.saturating_sub(passed);
         found.is_some()
     }
 
@@ -142,7 +144,7 @@ impl Cursor {
     fn go_on(&mut self) {
         self.part = self.part.saturating_add(1);
         self.at = 0;
-        self.paid = self.paid.saturating_sub(1);
+        self.allowed = self.allowed.saturating_sub(1);
     }
 }
 

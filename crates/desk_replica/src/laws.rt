@@ -24,7 +24,7 @@ ghost use Rattle.desk_replica.specs.declared.world.step.Reply.{Reply};
 ghost use Rattle.desk_replica.specs.declared.world.step.Reply.TheVariants.{Done, Refused};
 ghost use Rattle.desk_replica.specs.SetOf.{IsSetOf};
 ghost use Rattle.desk_replica.specs.Typing.{typed, insertion};
-ghost use Rattle.desk_replica.specs.Stretch.{typed_text, deletions, replacement};
+ghost use Rattle.desk_replica.specs.Replacement.{typed_text, deletions, replacement};
 ghost use Rattle.desk_replica.specs.Telling.{IsTold, change_count};
 ghost use Rattle.desk_replica.specs.Reply.{IsRefusal};
 ghost use Rattle.desk_replica.specs.Refusal.{IsFirstRefusal};

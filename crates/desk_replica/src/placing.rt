@@ -39,7 +39,7 @@ pub enum Standing {
 }
 
 /// What is there at this identifier, if anything.
-fn kept_at<S: Sequence>(seq: &S, held: &Held, id: Id) -> Option<Op>
+fn insertion_at<S: Sequence>(seq: &S, held: &Held, id: Id) -> Option<Op>
     ensures { result ≡ option_map (λ node. Insert id node.parent node.ch)
         (map.get (whole (S.content seq.now) held.now).ins id) }
 {
@@ -60,7 +60,7 @@ pub fn look_up<S: Sequence>(seq: &S, held: &Held, greatest: u32, op: &Op) -> Sta
         return Standing::New;
     }
     match op.view() {
-        OpView::Insert { id, .. } => match kept_at(seq, held, id) {
+        OpView::Insert { id, .. } => match insertion_at(seq, held, id) {
             None => Standing::New,
             Some(kept) if kept == *op => Standing::Known,
             Some(_) => Standing::Reused,

@@ -11,7 +11,7 @@ ghost use Rattle.rga_tree.specs.Tree.{stands_in};
 ghost use Rattle.rga_tree.specs.Row.{shown_ids};
 ghost use Rattle.desk_replica.specs.Merging.{with_operations};
 ghost use Rattle.desk_replica.specs.Placement.{IsPaid};
-ghost use Rattle.desk_replica.specs.Stretch.{MayHide, deletions, insertions};
+ghost use Rattle.desk_replica.specs.Replacement.{MayHide, deletions, insertions};
 
 use bg_types::{Id, Memory, Op, OpView, Place};
 use pending_ops::Held;

@@ -11,7 +11,7 @@ use Rattle.rga_tree.specs.TextOf.{visible, visible_ids}
 use Rattle.rga_tree.proofs.Interface.{Entry, AllWellFormed-with}
 use Rattle.desk_replica.specs.Typing.{typed, insertion}
 use Rattle.desk_replica.specs.Merging.{with_operations}
-use Rattle.desk_replica.specs.Stretch.{deletions}
+use Rattle.desk_replica.specs.Replacement.{deletions}
 use Rattle.desk_typing.proofs.Lists.{deletions-at}
 use Rattle.desk_typing.proofs.Sets.{AllJoin}
 

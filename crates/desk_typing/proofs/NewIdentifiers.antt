@@ -12,7 +12,7 @@ use Rattle.bg_types.proofs.Interface.{next-above}
 use Rattle.rga_tree.specs.TextOf.{visible_ids}
 use Rattle.desk_replica.specs.Typing.{parent_at}
 use Rattle.desk_typing.specs.declared.change.Change.{Change}
-use Rattle.desk_replica.specs.Stretch.{id_after, insertions}
+use Rattle.desk_replica.specs.Replacement.{id_after, insertions}
 use Rattle.desk_typing.specs.Changing.{place_in, first_id, operations_of}
 use Rattle.desk_typing.proofs.Sets.{contains_none, contains_cases}
 

@@ -17,7 +17,7 @@ use Rattle.rga_tree.specs.TextOf.{text, visible, visible_ids}
 use Rattle.rga_tree.proofs.Interface.{Entry}
 use Rattle.desk_replica.specs.Typing.{parent_at}
 use Rattle.desk_replica.specs.Merging.{with_operations}
-use Rattle.desk_replica.specs.Stretch.{id_after, deletions, insertions}
+use Rattle.desk_replica.specs.Replacement.{id_after, deletions, insertions}
 use Rattle.desk_replica.specs.SetOf.{IsSetOf}
 use Rattle.desk_files.specs.Reading.{limit, IsReadAs}
 use Rattle.desk_files.specs.Files.{joined}

@@ -5,7 +5,7 @@ use Rattle.bg_types.specs.OperationSet.{OperationSet, next, size}
 use Rattle.bg_types.specs.declared.op.OpView.{OpView}
 use Rattle.rga_tree.specs.TextOf.{visible, visible_ids}
 use Rattle.desk_replica.specs.Typing.{parent_at}
-use Rattle.desk_replica.specs.Stretch.{deletions, insertions}
+use Rattle.desk_replica.specs.Replacement.{deletions, insertions}
 use Rattle.desk_files.specs.declared.run_fault.RunFault.TheVariants.{Memory}
 use Rattle.desk_typing.specs.declared.change.Change.{Change}
 use Rattle.desk_typing.specs.declared.typing_fault.TypingFault.{TypingFault}

@@ -6,7 +6,7 @@ ghost use Rattle.bg_types.specs.OperationSet.{next, size};
 ghost use Rattle.desk_files.specs.declared.run_fault.RunFault.TheVariants.{Memory as run_memory};
 ghost use Rattle.desk_typing.specs.declared.typing_fault.TypingFault.TheVariants.{Run as typing_run, CounterSpent as typing_spent};
 ghost use Rattle.rga_tree.specs.TextOf.{visible};
-ghost use Rattle.desk_replica.specs.Stretch.{replacement};
+ghost use Rattle.desk_replica.specs.Replacement.{replacement};
 ghost use Rattle.desk_typing.specs.Changing.{operations_of, Fits, IsUnfit};
 
 use crate::change::Change;

@@ -16,7 +16,7 @@ use Rattle.desk_replica.specs.Reply.{IsRefusal}
 use Rattle.desk_replica.specs.Telling.{IsTold, IsUntaken, changes_of, is_shown, waiting_count}
 use Rattle.desk_replica.specs.declared.answer.TakeFault.{TakeFault}
 use Rattle.desk_replica.specs.declared.answer.TakeFault.TheVariants.{IdentifierReused, Full, Memory}
-use Rattle.desk_replica.specs.Taking.{AreAccepted, AreTaken, AreTold, IsPaid}
+use Rattle.desk_replica.specs.Taking.{AreAccepted, AreTaken, AreTold, IsListPaid}
 use Rattle.live_document.proofs.Followed.{told-behind}
 
 with-append_one : (s : OperationSet) (ops : List OpView) (op : OpView) → with_operations s (ops ++ op ∷ []) ≡ with_operation (with_operations s ops) op
@@ -69,11 +69,11 @@ told_next s u t ops n op old mid new within is taken more before told =
 -- ---- what is paid for
 
 -- one operation less is left to be paid for, whether it was taken
-pub paid_next : (old new : Desk) (n told more capacity room : ℕ) → IsPaid old (n + 1) told capacity → size old.set + old.spare ≤ size new.set + new.spare → size new.set ≤ size old.set + 1
-    → more + waiting_count new.set ≤ told + waiting_count old.set + 1 → capacity ≤ room → IsPaid new n more room
+pub paid_next : (old new : Desk) (n told more capacity room : ℕ) → IsListPaid old (n + 1) told capacity → size old.set + old.spare ≤ size new.set + new.spare → size new.set ≤ size old.set + 1
+    → more + waiting_count new.set ≤ told + waiting_count old.set + 1 → capacity ≤ room → IsListPaid new n more room
 paid_next old new n told more capacity room paid spare one few grows = record { spare = omega (arith, paid.spare, spare, one); room = omega (arith, paid.room, few, grows) }
 
-pub paid_still : (old new : Desk) (n told more capacity room : ℕ) → IsPaid old (n + 1) told capacity → new ≡ old → more ≡ told → capacity ≤ room → IsPaid new n more room
+pub paid_still : (old new : Desk) (n told more capacity room : ℕ) → IsListPaid old (n + 1) told capacity → new ≡ old → more ≡ told → capacity ≤ room → IsListPaid new n more room
 paid_still old new n told more capacity room paid same none grows = record {
   spare = omega (arith, paid.spare, ap (λ (d : Desk). d.spare) same);
   room = omega (arith, paid.room, ap (λ (d : Desk). waiting_count d.set) same, none, grows);

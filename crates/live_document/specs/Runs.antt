@@ -4,7 +4,7 @@ use Rattle.bg_types.specs.declared.class.Base.{Base}
 use Rattle.bg_types.specs.declared.op.OpView.{OpView}
 use Rattle.bg_types.specs.OperationSet.{OperationSet, with_operation, union}
 use Rattle.desk_replica.specs.Merging.{with_operations}
-use Rattle.desk_replica.specs.Stretch.{typed_text, deletions, replacement}
+use Rattle.desk_replica.specs.Replacement.{typed_text, deletions, replacement}
 use Rattle.live_document.specs.Documents.{LiveDocument, IsDrawnAlike, window_round}
 use Rattle.live_document.specs.Showing.{no_window}
 

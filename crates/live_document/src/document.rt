@@ -8,7 +8,7 @@ ghost use Rattle.bg_types.specs.WellFormed.{IsWellFormed};
 ghost use Rattle.rga_tree.specs.TextOf.{text, visible, visible_ids};
 ghost use Rattle.desk_replica.specs.Desk.{fresh};
 ghost use Rattle.desk_replica.specs.Merging.{with_operations};
-ghost use Rattle.desk_replica.specs.Stretch.{typed_text, deletions, replacement, IsTextRefusal, IsTextRefused, IsRangeRefused, IsReplaceRefusal, IsReplaceRefused};
+ghost use Rattle.desk_replica.specs.Replacement.{typed_text, deletions, replacement, IsTextRefusal, IsTextRefused, IsRangeRefused, IsReplaceRefusal, IsReplaceRefused};
 ghost use Rattle.desk_replica.specs.declared.answer.TypeFault.{TypeFault as Untyped};
 ghost use Rattle.live_document.specs.Cost.{weight_kept, IsLaidOut, KeepsOthers};
 ghost use Rattle.live_document.specs.Documents.{window_round, IsDrawnAlike, IsWindowOf};

@@ -61,7 +61,7 @@ pub fn fed_in_pieces()
         → IsFed all new × IsSound all }
     ensures ops { (all kept : List ℕ) (ops : List OpView) → IsFed all kept → IsWhole kept ops → IsWhole all ops }
     ensures spelled { (all kept : List ℕ) (ops : List OpView) → IsFed all kept → Spells kept ops → Spells all ops }
-    ensures told { (all kept : List ℕ) (frame : ℕ) (cause : Cause) → IsFed all kept → IsFault kept frame cause → IsFault all frame cause }
+    ensures shown { (all kept : List ℕ) (frame : ℕ) (cause : Cause) → IsFed all kept → IsFault kept frame cause → IsFault all frame cause }
 {}
 
 /// A file and its migration spell the same operations, so nothing that reads operations can

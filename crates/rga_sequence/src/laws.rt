@@ -10,7 +10,7 @@ ghost use Rattle.bg_types.specs.declared.op.Place.TheVariants.{Root};
 ghost use Rattle.rga_tree.specs.Walk.{walk};
 ghost use Rattle.rga_tree.specs.Elements.{elements};
 ghost use Rattle.rga_tree.specs.Row.{place_of};
-ghost use Rattle.rga_tree.specs.Leaf.{IsParent, StandsAttached};
+ghost use Rattle.rga_tree.specs.Leaf.{IsParent, IsAttachedParent};
 
 /// The skipping law. A new insertion that is no parent yet, below the root or an attached parent, is
 /// put into the old walk after its parent (the root: at the front), and after all greater
@@ -18,7 +18,7 @@ ghost use Rattle.rga_tree.specs.Leaf.{IsParent, StandsAttached};
 pub fn skipping()
     ensures { (s : OperationSet) → AllWellFormed s → (id : Identifier) (node : Node)
         → IsWellFormed (Insert id node.parent node.ch) → map.contains_key s.ins id ≡ false
-        → (IsParent s id → ⊥) → StandsAttached s node.parent
+        → (IsParent s id → ⊥) → IsAttachedParent s node.parent
         → walk (with_operation s (Insert id node.parent node.ch)) Root
         ≡ insert (walk s Root) (place_of node.parent id (elements s)) (id, node) }
 {}

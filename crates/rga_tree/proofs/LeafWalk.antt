@@ -14,7 +14,7 @@ use Rattle.rga_tree.specs.Walk.{same_place, walk}
 use Rattle.rga_tree.specs.Tree.{stands_in, IsTree}
 use Rattle.rga_tree.specs.Elements.{element_of, elements}
 use Rattle.rga_tree.specs.Row.{start_of, place_of}
-use Rattle.rga_tree.specs.Leaf.{IsParent, StandsAttached}
+use Rattle.rga_tree.specs.Leaf.{IsParent, IsAttachedParent}
 use Rattle.rga_tree.proofs.WalkAmong.{Entry, IsChildless, same_is, walk_among, among, walk-with_new}
 use Rattle.rga_tree.proofs.Entries.{entries_of, all_entries, absent_of, low_of, Rises-entries, AreWellFounded-entries}
 use Rattle.rga_tree.proofs.Depth.{walk-among}
@@ -41,13 +41,13 @@ listed_before s a (e ∷ es) h =
       | false ↦ λ h. let more = listed_before s a es h in omega arith
     ] h
 
-within : (s : OperationSet) (p : Place) → AllWellFormed s → StandsAttached s p → start_of p (elements s) ≤ length (elements s)
+within : (s : OperationSet) (p : Place) → AllWellFormed s → IsAttachedParent s p → start_of p (elements s) ≤ length (elements s)
 within s Root well stands = omega arith
 within s (After a) well stands = listed_before s a (walk s Root) (listed-attached s a well stands)
 
 -- below the root or an attached parent, where parents may be missing
 pub walk-leaf_attached : (s : OperationSet) (id : Identifier) (node : Node) → AllWellFormed s → IsWellFormed (Insert id node.parent node.ch)
-    → map.contains_key s.ins id ≡ false → (IsParent s id → ⊥) → StandsAttached s node.parent
+    → map.contains_key s.ins id ≡ false → (IsParent s id → ⊥) → IsAttachedParent s node.parent
     → walk (with_operation s (Insert id node.parent node.ch)) Root ≡ insert (walk s Root) (place_of node.parent id (elements s)) (id, node)
 walk-leaf_attached s id node well is new none stands =
     let distinct : AreDistinct (walk s Root) = subst AreDistinct (sym (walk-among s Root well)) (AreDistinct-walk (entries_of s) Root (Rises-entries s) (AreWellFounded-entries s well)) in
@@ -58,7 +58,7 @@ walk-leaf_attached s id node well is new none stands =
     ∙ ap (among (id, node) Root) (sym (walk-among s Root well))
     ∙ among-insert s (id, node) (walk s Root) distinct (within s node.parent well stands)
 
-attached_in : (s : OperationSet) (p : Place) → AllWellFormed s → IsTree s → stands_in s p ≡ true → StandsAttached s p
+attached_in : (s : OperationSet) (p : Place) → AllWellFormed s → IsTree s → stands_in s p ≡ true → IsAttachedParent s p
 attached_in s Root well tree stands = tt
 attached_in s (After a) well tree stands = IsAttached-tree s a well tree stands
 

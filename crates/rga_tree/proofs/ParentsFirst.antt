@@ -8,7 +8,7 @@ use Rattle.bg_types.specs.OperationSet.{OperationSet}
 use Rattle.bg_types.specs.declared.op.Place.{Place}
 use Rattle.bg_types.specs.declared.op.Place.TheVariants.{Root, After}
 use Rattle.bg_types.proofs.Interface.{same_id-itself}
-use Rattle.rga_tree.specs.Walk.{children, walk_to, walk, StandsAmong}
+use Rattle.rga_tree.specs.Walk.{children, walk_to, walk, IsListedParent}
 use Rattle.rga_tree.proofs.WalkAmong.{Entry}
 use Rattle.rga_tree.proofs.Listed.{is_listed, listed-append, Contains-listed}
 use Rattle.rga_tree.proofs.AttachedWalk.{all_children}
@@ -63,11 +63,11 @@ IsSeen-split : (q : Place) (seen before after : List Entry) (e : Entry) → IsLe
 IsSeen-split q seen [] after e h = subst (λ s. IsSeen q s e.1.parent) (sym (append-nil seen)) h.0
 IsSeen-split q seen (x ∷ before) after e h = subst (λ s. IsSeen q s e.1.parent) (append_assoc seen (x ∷ []) before) (IsSeen-split q (seen ++ x ∷ []) before after e h.1)
 
-StandsAmong-seen : (p : Place) (before : List Entry) → IsSeen Root before p → StandsAmong p before
-StandsAmong-seen Root before h = tt
-StandsAmong-seen (After a) before (inl h) = absurd cc
-StandsAmong-seen (After a) before (inr h) = Contains-listed a before h
+IsListedParent-seen : (p : Place) (before : List Entry) → IsSeen Root before p → IsListedParent p before
+IsListedParent-seen Root before h = tt
+IsListedParent-seen (After a) before (inl h) = absurd cc
+IsListedParent-seen (After a) before (inr h) = Contains-listed a before h
 
-pub StandsAmong-before : (s : OperationSet) (before after : List Entry) (e : Entry) → walk s Root ≡ before ++ e ∷ after → StandsAmong e.1.parent before
-StandsAmong-before s before after e split =
-    StandsAmong-seen e.1.parent before (IsSeen-split Root [] before after e (subst (IsLed Root []) split (IsLed-walk s (map.len s.ins) Root)))
+pub IsListedParent-before : (s : OperationSet) (before after : List Entry) (e : Entry) → walk s Root ≡ before ++ e ∷ after → IsListedParent e.1.parent before
+IsListedParent-before s before after e split =
+    IsListedParent-seen e.1.parent before (IsSeen-split Root [] before after e (subst (IsLed Root []) split (IsLed-walk s (map.len s.ins) Root)))

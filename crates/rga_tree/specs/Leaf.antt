@@ -12,6 +12,6 @@ abbrev pub IsParent : OperationSet → Identifier → Type 0
 IsParent s id = (child : Identifier) × (node : Node) × (map.get s.ins child ≡ Some node) × (node.parent ≡ After id)
 
 -- the parent is the root, or attached in S
-abbrev pub StandsAttached : OperationSet → Place → Type 0
-StandsAttached s Root = Unit {0}
-StandsAttached s (After parent) = IsAttached s.ins parent
+abbrev pub IsAttachedParent : OperationSet → Place → Type 0
+IsAttachedParent s Root = Unit {0}
+IsAttachedParent s (After parent) = IsAttached s.ins parent

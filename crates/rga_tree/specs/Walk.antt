@@ -36,6 +36,6 @@ abbrev pub walked_ids : OperationSet → List Identifier
 walked_ids s = each (λ e. e.0) (walk s Root)
 
 -- the parent is the root, or an identifier that is listed
-abbrev pub StandsAmong : Place → List (Identifier × Node) → Type 0
-StandsAmong Root listed = Unit {0}
-StandsAmong (After parent) listed = Contains (each (λ e. e.0) listed) parent
+abbrev pub IsListedParent : Place → List (Identifier × Node) → Type 0
+IsListedParent Root listed = Unit {0}
+IsListedParent (After parent) listed = Contains (each (λ e. e.0) listed) parent

@@ -12,7 +12,7 @@ ghost use Rattle.bg_types.specs.declared.op.OpView.{OpView};
 ghost use Rattle.bg_types.specs.declared.op.OpView.TheVariants.{Insert};
 ghost use Rattle.bg_types.specs.declared.op.Place.{Place};
 ghost use Rattle.bg_types.specs.declared.op.Place.TheVariants.{Root, After};
-ghost use Rattle.rga_tree.specs.Walk.{walk, children, walked_ids, StandsAmong};
+ghost use Rattle.rga_tree.specs.Walk.{walk, children, walked_ids, IsListedParent};
 ghost use Rattle.rga_tree.specs.Attached.{IsAttached, IsAttachedPart, is_attached};
 ghost use Rattle.rga_tree.specs.Parts.{IsPartOf};
 ghost use Rattle.rga_tree.specs.Order.{Precedes, StandsBetween};
@@ -49,7 +49,7 @@ pub fn tree_attached()
 pub fn parents_first()
     ensures { (s : OperationSet) → AllWellFormed s
         → (before after : List (Identifier × Node)) (e : Identifier × Node)
-        → walk s Root ≡ before ++ e ∷ after → StandsAmong e.1.parent before }
+        → walk s Root ≡ before ++ e ∷ after → IsListedParent e.1.parent before }
 {}
 
 /// The walk from the root and the text depend only on what is attached.

@@ -39,8 +39,8 @@ class Editor(Standing):
             "ctrl-s": self.write_text,
             "ctrl-q": self.leave,
             "ctrl-a": self.select_all,
-            "mark": self.begin_stretch,
-            "escape": self.end_stretch,
+            "mark": self.begin_selection,
+            "escape": self.end_selection,
             "f2": self.change_base,
             "f3": lambda: self.desk.begin_job(self.desk.change_ambiguous()),
         }
@@ -80,7 +80,7 @@ class Editor(Standing):
             if self.marked is None:
                 self.marked = self.between
         elif not self.is_marking:
-            self.end_stretch()
+            self.end_selection()
         if not name.endswith(("up", "down")):
             self.goal = None
         self.desk.edits.close()
@@ -92,12 +92,12 @@ class Editor(Standing):
 
     # The selection
 
-    def begin_stretch(self) -> None:
+    def begin_selection(self) -> None:
         """Selects from here on."""
         self.marked = self.between
         self.is_marking = True
 
-    def end_stretch(self) -> None:
+    def end_selection(self) -> None:
         """Selects nothing."""
         self.marked = None
         self.is_marking = False
@@ -123,7 +123,7 @@ class Editor(Standing):
     def replace(self, start: int, stop: int, text: str, joined: Edit | None = None) -> Edit | None:
         """Edits the text, and stands behind what was typed."""
         edit = self.desk.replace(start, stop, text, joined)
-        self.end_stretch()
+        self.end_selection()
         self.goal = None
         self.stand_behind(start + len(text))
         return edit
@@ -152,7 +152,7 @@ class Editor(Standing):
 
     def take_back(self, places: Iterator[int | None], pressed: int) -> Iterator[object]:
         """Takes one's last edit back, in pieces. The caret goes there, unless a key is pressed meanwhile."""
-        self.end_stretch()
+        self.end_selection()
         is_seen = False
         for place in places:
             if place is not None:

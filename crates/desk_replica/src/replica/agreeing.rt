@@ -47,7 +47,7 @@ impl<S: Sequence> Replica<S> {
         ensures yes { OnTrue result (ReusesIn self.now.set row.now) }
         ensures no { OnFalse result (All (λ e. MayJoin self.now.set (made_by e)) row.now) }
     {
-        cursor.pay(row.len());
+        cursor.allow(row.len());
         let mut at = self.known_in_front(row, cursor);
         while at < row.len() {
             let e = &row[at];

@@ -182,7 +182,7 @@ impl<S: Sequence> Replica<S> {
         ensures fault { IfErr result (IsStopped (deletions_in row.now) self.new (L.told listener.old) (L.told listener.new) (L.capacity listener.old)) }
         ensures ok { OnOk result (All (IsErasedIn self.new.set) row.now) }
     {
-        cursor.pay(row.len());
+        cursor.allow(row.len());
         for e in row {
             self.erase_element(e, cursor, listener)?;
         }
@@ -287,7 +287,7 @@ impl<S: Sequence> Replica<S> {
     {
         let mut unpacked = Unpacked::new();
         let row = seq.part(p, &mut unpacked);
-        cursor.pay(row.len());
+        cursor.allow(row.len());
         let mut at = self.known_in_front(row, cursor);
         while at < row.len() {
             let e = &row[at];

@@ -6,7 +6,7 @@ ghost use Rattle.bg_types.specs.OperationSet.{size, next};
 ghost use Rattle.bg_types.specs.WellFormed.{IsWellFormed};
 ghost use Rattle.rga_tree.specs.TextOf.{text, visible};
 ghost use Rattle.desk_replica.specs.Merging.{with_operations};
-ghost use Rattle.desk_replica.specs.Stretch.{typed_text, deletions, replacement, IsTextRefusal, IsTextRefused, IsRangeRefused, IsReplaceRefusal, IsReplaceRefused};
+ghost use Rattle.desk_replica.specs.Replacement.{typed_text, deletions, replacement, IsTextRefusal, IsTextRefused, IsRangeRefused, IsReplaceRefusal, IsReplaceRefused};
 ghost use Rattle.desk_replica.specs.declared.answer.TypeFault.{TypeFault as Untyped};
 
 use super::{MOST_OPERATIONS, Replica};

@@ -8,7 +8,7 @@ ghost use Rattle.desk_replica.specs.Telling.{IsTold};
 ghost use Rattle.live_document.specs.Cost.{IsBare, KeepsUnchanged};
 ghost use Rattle.live_document.specs.Documents.{IsDrawnAlike};
 ghost use Rattle.live_document.specs.Showing.{no_window};
-ghost use Rattle.desk_replica.specs.Taking.{AreTaken, AreTold, IsPaid, IsRefusedNext};
+ghost use Rattle.desk_replica.specs.Taking.{AreTaken, AreTold, IsListPaid, IsRefusedNext};
 
 use super::{Desk, Document};
 use crate::following::follow_all;
@@ -43,7 +43,7 @@ impl Document {
         ensures edit { result.told ≡ true → IsEdit (text self.old.desk.set) (drop (length changes.old.items) changes.new.items) (text self.new.desk.set) }
         ensures untold { result.told ≡ false → changes.new.items ≡ changes.old.items }
         ensures some { result.told ≡ false → 0 < result.taken }
-        ensures paid { IsPaid self.old.desk (length ops.now) (vec_len changes.old) (vec_capacity changes.old) → result.told ≡ true }
+        ensures paid { IsListPaid self.old.desk (length ops.now) (vec_len changes.old) (vec_capacity changes.old) → result.told ≡ true }
         ensures none { result.taken ≡ 0 → self.new ≡ self.old }
         ensures drawn { IsDrawnAlike self.old self.new }
         ensures window { 0 < result.taken → self.new.window ≡ no_window }
@@ -81,7 +81,7 @@ fn take_each(desk: &mut Desk, ops: &[Op], changes: &mut Vec<Change>) -> TakenAll
     ensures told { result.told ≡ true → AreTold desk.old.set (take result.taken ops.now) changes.old.items changes.new.items }
     ensures behind { take (length changes.old.items) changes.new.items ≡ changes.old.items }
     ensures some { result.told ≡ false → 0 < result.taken }
-    ensures paid { IsPaid desk.old (length ops.now) (vec_len changes.old) (vec_capacity changes.old) → result.told ≡ true }
+    ensures paid { IsListPaid desk.old (length ops.now) (vec_len changes.old) (vec_capacity changes.old) → result.told ≡ true }
 {
     let mut told = true;
     for (number, op) in ops.iter().enumerate() {
@@ -113,8 +113,8 @@ fn take_next(
     ensures untold { told.new ≡ false → changes.new.items ≡ changes.old.items }
     ensures same { OnErr result (told.new ≡ told.old) }
     ensures err { OnErr result (changes.new.items ≡ changes.old.items) }
-    ensures paid { told.old ≡ true → (n : ℕ) → IsPaid desk.old (n + 1) (vec_len changes.old) (vec_capacity changes.old)
-        → (told.new ≡ true) × IsPaid desk.new n (vec_len changes.new) (vec_capacity changes.new) }
+    ensures paid { told.old ≡ true → (n : ℕ) → IsListPaid desk.old (n + 1) (vec_len changes.old) (vec_capacity changes.old)
+        → (told.new ≡ true) × IsListPaid desk.new n (vec_len changes.new) (vec_capacity changes.new) }
 {
     if !*told {
         return desk.take(op);

@@ -8,4 +8,4 @@ pub returns-else-answer-eq-OK-clause-fault : goal.returns-else-answer-eq-OK-clau
 returns-else-answer-eq-OK-clause-fault c =
     let taken = c.take_in-answer in
     let fresh_is = c.deref_mut.ensures.value ∙ c.in_ok-boxed.ensures.ok.0 in
-    inr (inr (taken.new.desk, subst (λ (d : Desk). IsMessageTaken d c.args.file.now taken.new.desk taken.new.told taken.result) fresh_is taken.ensures.taken))
+    inr (inr (taken.new.desk, subst (λ (d : Desk). IsMessageTaken d c.args.file.now taken.new.desk taken.new.taken taken.result) fresh_is taken.ensures.taken))

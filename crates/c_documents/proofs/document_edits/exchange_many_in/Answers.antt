@@ -3,7 +3,7 @@ use Rattle.std.proofs.Common.{◌-◌, ◌++◌, List, length, ap, ◌∙◌, ar
 use Rattle.std.specs.Str.{chars}
 use Rattle.bg_types.specs.declared.op.OpView.{OpView}
 use Rattle.op_codec.specs.Spelling.{spelling}
-use Rattle.desk_replica.specs.Stretch.{replacement}
+use Rattle.desk_replica.specs.Replacement.{replacement}
 use Rattle.c_desks.proofs.Interface.{replaced_fits, replaced_length}
 use Rattle.c_documents.proofs.document_edits.exchange_many_in.Goals as goal
 

@@ -4,7 +4,7 @@ use Rattle.std.proofs.lemmas.List.Elements.{recursion_from_All}
 use Rattle.bg_types.specs.WellFormed.{IsWellFormed}
 use Rattle.bg_types.specs.OperationSet.{with_operation}
 use Rattle.desk_replica.specs.Typing.{typed, insertion}
-use Rattle.desk_replica.specs.Stretch.{typed_text, deletions}
+use Rattle.desk_replica.specs.Replacement.{typed_text, deletions}
 use Rattle.desk_replica.proofs.Ranges.{erased_then, visible_at}
 use Rattle.desk_replica.proofs.Replacing.{typed_still}
 use Rattle.desk_replica.proofs.Stretches.{one_then}

@@ -3,7 +3,7 @@ use Rattle.std.proofs.Common.{◌≡◌, ◌-◌, length, take, drop, ◌∙◌,
 use Rattle.std.specs.Prelude.{All}
 use Rattle.std.proofs.lemmas.List.{take_rest, drop_at}
 use Rattle.bg_types.specs.OperationSet.{OperationSet}
-use Rattle.desk_replica.specs.Stretch.{MayHide, deletions}
+use Rattle.desk_replica.specs.Replacement.{MayHide, deletions}
 use Rattle.desk_replica.proofs.Ranges.{may_hide}
 use Rattle.desk_replica.proofs.stretching.erase_stretch.Goals as goal
 

@@ -13,7 +13,7 @@ use Rattle.bg_types.specs.declared.op.OpView.{OpView}
 use Rattle.bg_types.specs.declared.op.OpView.TheVariants.{Insert}
 use Rattle.rga_tree.specs.Run.{later}
 use Rattle.rga_tree.proofs.Interface.{drawn, nothing_left}
-use Rattle.desk_replica.specs.Stretch.{insertions}
+use Rattle.desk_replica.specs.Replacement.{insertions}
 use Rattle.desk_replica.proofs.Stretches.{IsUnderWay, under_way}
 use Rattle.desk_replica.proofs.Typing.{at_some}
 use Rattle.desk_replica.proofs.stretching.list_run.Goals as goal

@@ -4,7 +4,7 @@ use Rattle.std.specs.Prelude.{map as each, vec_len, vec_capacity}
 use Rattle.std.specs.List.{flat_map}
 use Rattle.bg_types.specs.declared.op.OpView.TheVariants.{Erase}
 use Rattle.rga_tree.specs.Row.{shown_ids}
-use Rattle.desk_replica.specs.Stretch.{deletions}
+use Rattle.desk_replica.specs.Replacement.{deletions}
 use Rattle.desk_replica.proofs.stretching.list_stretch.Given as goal
 
 abbrev pub invariant-loop-p : goal.invariant-loop-p

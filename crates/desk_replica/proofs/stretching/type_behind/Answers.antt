@@ -8,7 +8,7 @@ use Rattle.std.proofs.lemmas.List.Elements.{All-nil}
 use Rattle.bg_types.specs.Identifier.{Identifier}
 use Rattle.bg_types.specs.WellFormed.{IsWellFormed, MayFollow}
 use Rattle.rga_tree.proofs.Interface.{nothing_left}
-use Rattle.desk_replica.specs.Stretch.{insertions}
+use Rattle.desk_replica.specs.Replacement.{insertions}
 use Rattle.desk_replica.specs.Merging.{with_operations}
 use Rattle.desk_replica.proofs.Stretches.{newest_new, some_characters}
 use Rattle.desk_replica.proofs.Typing.{at_some}

@@ -4,7 +4,7 @@ use Rattle.std.specs.Str.{chars}
 use Rattle.bg_types.specs.declared.op.OpView.{OpView}
 use Rattle.rga_tree.specs.TextOf.{visible, visible_ids}
 use Rattle.desk_replica.specs.Typing.{parent_at}
-use Rattle.desk_replica.specs.Stretch.{deletions, insertions, replacement}
+use Rattle.desk_replica.specs.Replacement.{deletions, insertions, replacement}
 use Rattle.desk_typing.specs.Changing.{place_in, first_id, IsUnfit}
 use Rattle.desk_files.proofs.Interface.{err_handed}
 use Rattle.desk_typing.proofs.operations.operations.Goals as goal

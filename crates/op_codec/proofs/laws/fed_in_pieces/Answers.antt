@@ -21,5 +21,5 @@ returns-clause-ops c = fed_whole
 pub returns-clause-spelled : goal.returns-clause-spelled
 returns-clause-spelled c = fed_spelled
 
-pub returns-clause-told : goal.returns-clause-told
-returns-clause-told c = fed_fault
+pub returns-clause-shown : goal.returns-clause-shown
+returns-clause-shown c = fed_fault

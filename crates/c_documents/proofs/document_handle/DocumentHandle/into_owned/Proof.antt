@@ -18,7 +18,7 @@ use denote.Struct.Owning.{shape}
 use denote.Triple.Walked.{Stays, stay_dropped, walk_of, Goes-dropped}
 use Rattle.core.proofs.atomic.Steps.{Ptr-Good}
 use Rattle.std.proofs.raw_atomic.Walks.{proved_at, leaves}
-use Rattle.c_handles.specs.Held.{owned_at}
+use Rattle.c_handles.specs.Owned.{owned_at}
 use Rattle.c_handles.specs.contracts.nullable_box.NullableBox as nullable
 use Rattle.c_handles.proofs.Words.{word, word_fits, taken_apart, put_together}
 use Rattle.c_documents.specs.Rows.{document_row}

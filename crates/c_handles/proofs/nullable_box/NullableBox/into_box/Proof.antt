@@ -43,7 +43,7 @@ use Rattle.std_alloc.proofs.BoxSteps.Steps.{box_out, box_in}
 use Rattle.std_alloc.proofs.ResultValues.{and_tt}
 use Rattle.std_alloc.specs.contracts.boxed.Box.from_raw as callee
 use Rattle.std_alloc.proofs.boxed.Box.from_raw.Met.{met}
-use Rattle.c_handles.specs.Held.{owned_at}
+use Rattle.c_handles.specs.Owned.{owned_at}
 use Rattle.c_handles.specs.contracts.nullable_box.NullableBox as nullable
 use Rattle.c_handles.proofs.Heap as heap
 use Rattle.c_handles.proofs.Owned.{null_or_boxed}

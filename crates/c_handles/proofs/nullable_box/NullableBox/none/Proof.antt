@@ -18,7 +18,7 @@ use denote.Triple.Entry.{alive}
 use denote.Triple.Walked.{Stays, walk_of}
 use Rattle.std.proofs.raw_atomic.Walks.{proved_at, leaves}
 use Rattle.std.specs.declared.option.Option.TheVariants.{None}
-use Rattle.c_handles.specs.Held.{owned_at}
+use Rattle.c_handles.specs.Owned.{owned_at}
 use Rattle.c_handles.specs.contracts.nullable_box.NullableBox as nullable
 use Rattle.c_handles.proofs.Words.{word, word_fits, put_together}
 use Rattle.c_handles.specs.contracts.nullable_box.NullableBox.none.{ended, clauses}

@@ -7,7 +7,7 @@ use Rattle.bg_types.specs.OperationSet.{size}
 use Rattle.rga_tree.specs.TextOf.{text, visible}
 use Rattle.desk_replica.specs.Desk.{Desk}
 use Rattle.desk_replica.specs.declared.answer.TypeFault.TheVariants.{Full}
-use Rattle.desk_replica.specs.Stretch.{deletions, replacement, IsRangeRefused}
+use Rattle.desk_replica.specs.Replacement.{deletions, replacement, IsRangeRefused}
 use Rattle.desk_replica.specs.Merging.{with_operations}
 use Rattle.desk_replica.proofs.Ranges.{erased}
 use Rattle.desk_replica.proofs.Replacing.{on_ok, if_err, if_err_both, range_refused, range_full}

@@ -9,7 +9,7 @@ use Rattle.rga_tree.specs.TextOf.{visible}
 use Rattle.rga_tree.specs.Tree.{stands_in}
 use Rattle.desk_replica.specs.Desk.{Desk}
 use Rattle.desk_replica.specs.Placement.{IsCounted, IsPaid, IsSettled, whole}
-use Rattle.desk_replica.specs.Stretch.{insertions, deletions, replacement}
+use Rattle.desk_replica.specs.Replacement.{insertions, deletions, replacement}
 use Rattle.desk_replica.specs.Merging.{with_operations}
 use Rattle.desk_replica.proofs.Admitting.{IsContent}
 use Rattle.desk_replica.proofs.FirstTurn.{held_within}

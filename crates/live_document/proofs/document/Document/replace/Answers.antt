@@ -2,7 +2,7 @@
 use Rattle.std.proofs.Common.{◌-◌, chars, subst}
 use Rattle.std.specs.List.{All}
 use Rattle.bg_types.specs.WellFormed.{IsWellFormed}
-use Rattle.desk_replica.specs.Stretch.{replacement}
+use Rattle.desk_replica.specs.Replacement.{replacement}
 use Rattle.unicode_tables.specs.Tables.{TableValues}
 use Rattle.live_document.specs.Keeping.{StaysKept}
 use Rattle.live_document.specs.Documents.{LiveDocument, paragraphs_of}

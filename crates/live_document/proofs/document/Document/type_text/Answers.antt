@@ -2,7 +2,7 @@
 use Rattle.std.proofs.Common.{chars, subst}
 use Rattle.std.specs.List.{All}
 use Rattle.bg_types.specs.WellFormed.{IsWellFormed}
-use Rattle.desk_replica.specs.Stretch.{typed_text}
+use Rattle.desk_replica.specs.Replacement.{typed_text}
 use Rattle.live_document.specs.Documents.{LiveDocument, paragraphs_of}
 use Rattle.live_document.specs.Cost.{KeepsOthers}
 use Rattle.unicode_tables.specs.Tables.{TableValues}
