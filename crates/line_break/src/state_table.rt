@@ -1,4 +1,4 @@
-//! The states behind each column, written by tools/make-pair-table.
+//! The states behind each column, written by tools/make/pair-table.
 
 /// By state and column: the state behind the character of that column.
 pub(crate) static STATES: [[u8; 45]; 80] = [

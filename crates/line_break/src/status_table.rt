@@ -1,4 +1,4 @@
-//! The pair table of the break rules, written by tools/make-pair-table from specs/Rules.
+//! The pair table of the break rules, written by tools/make/pair-table from specs/Rules.
 
 use crate::status::Break;
 use crate::status::Break::{May, Must, No};

@@ -1,4 +1,4 @@
-//! `BidiBrackets.txt` of Unicode 15.0, written by tools/make-unicode-source.
+//! `BidiBrackets.txt` of Unicode 15.0, written by tools/make/unicode-source.
 
 /// The bytes of the file.
 pub const BIDI_BRACKETS: &[u8] = b"\

@@ -1,4 +1,4 @@
-//! `DerivedBidiClass.txt` of Unicode 15.0, written by tools/make-unicode-source.
+//! `DerivedBidiClass.txt` of Unicode 15.0, written by tools/make/unicode-source.
 
 /// The bytes of the file.
 pub const BIDI_CLASS: &[u8] = b"\

@@ -1,4 +1,4 @@
-//! `BidiMirroring.txt` of Unicode 15.0, written by tools/make-unicode-source.
+//! `BidiMirroring.txt` of Unicode 15.0, written by tools/make/unicode-source.
 
 /// The bytes of the file.
 pub const BIDI_MIRRORING: &[u8] = b"\

@@ -1,4 +1,4 @@
-//! `EastAsianWidth.txt` of Unicode 15.0, written by tools/make-unicode-source.
+//! `EastAsianWidth.txt` of Unicode 15.0, written by tools/make/unicode-source.
 
 /// The bytes of the file.
 pub const EAST_ASIAN_WIDTH: &[u8] = b"\

@@ -1,4 +1,4 @@
-//! `LineBreak.txt` of Unicode 15.0, written by tools/make-unicode-source.
+//! `LineBreak.txt` of Unicode 15.0, written by tools/make/unicode-source.
 
 /// The bytes of the file.
 pub const LINE_BREAK: &[u8] = b"\
