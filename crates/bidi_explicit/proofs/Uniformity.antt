@@ -1,24 +1,21 @@
 -- A paragraph without controls is one sequence of all its places.
-use Rattle.std.proofs.Common.{ℕ, zero, suc, ◌≡◌, ◌≤◌, ◌<◌, ◌+◌, ◌-◌, ◌==◌, ◌||◌, inl, inr, refl, ap, ap₂, sym, subst, ◌∙◌, List, [], ◌∷◌, map, filter, length, drop, Option, Some, None, Bool, true, false, if◌then◌else◌, zero-add, append-nil, arith}
+use Rattle.std.proofs.Common.{ℕ, zero, suc, ◌≡◌, ◌≤◌, ◌<◌, ◌+◌, ◌==◌, ◌||◌, inl, inr, refl, ap, ap₂, sym, ◌∙◌, List, [], ◌∷◌, map, filter, length, drop, Option, Some, None, Bool, true, false, if◌then◌else◌, zero-add, arith}
 use Rattle.std.specs.Prelude.{is_some, not, ◌&&◌, slice_get, IfSome}
 use Rattle.std.specs.List.{All, list_any, range_with_len}
 use Rattle.std.proofs.Math.Bool.{and-false, or-true}
 use Rattle.std.proofs.lemmas.Bool.Decides.{eqb_tells}
 use Rattle.std.proofs.lemmas.Bool.{false≢true, cases_lt, or_parts}
 use Rattle.std.proofs.lemmas.List.{length-map}
-use Rattle.std.proofs.lemmas.List.Elements.{All-nil, All-cons, All-head, All-tail, All-same}
+use Rattle.std.proofs.lemmas.List.Elements.{All-nil, All-cons, All-head, All-tail}
 use Rattle.bg_types.specs.declared.class.Bidi.{Bidi}
 use Rattle.bg_types.specs.declared.class.Bidi.TheVariants.{L, R, Al, En, Es, Et, An, Cs, Nsm, B, S, Ws, On}
 use Rattle.paragraphs.specs.Classes.{is_separator, is_removed, is_isolate_control}
 use Rattle.bidi_explicit.specs.declared.kept.Kept.{Kept}
 use Rattle.bidi_explicit.specs.Nesting.{nest, is_initiator, matched, matching}
 use Rattle.bidi_explicit.specs.Levels.{descend, explicit_places, none_open, plain}
-use Rattle.bidi_explicit.specs.Sequences.{RunSequence, kept_at, is_kept, kept_from, kept_before, kept_after, same_level, has_level_of, over_isolate, next, chain, is_place, below, begins, direction_between, level_or, is_unmatched, last_or, sos_of, eos_of, sequence_from, sequences_of}
+use Rattle.bidi_explicit.specs.Sequences.{RunSequence, kept_at, kept_from, kept_before, kept_after, same_level, has_level_of, over_isolate, next, chain, is_place, below, begins, direction_between, level_or, is_unmatched, last_or, sos_of, eos_of, sequence_from, sequences_of}
 use Rattle.bidi_explicit.specs.Embedding.{Embedding, embedding_at}
-use Rattle.bidi_explicit.specs.Extents.{extent_sequences, IsKept, IsPart, IsWithin}
-use Rattle.bidi_explicit.specs.LevelRuns.{HasPlace, own_places, run_places}
-use Rattle.bidi_explicit.specs.Uniform.{is_control, IsNoControl, kept_at_level, one_sequence, whole_run, one_run, whole_extent, one_extent}
-use Rattle.bidi_explicit.proofs.Runs.{not-zero}
+use Rattle.bidi_explicit.specs.Uniform.{is_control, IsNoControl, kept_at_level, one_sequence}
 
 -- X1 to X8
 step-down : (p : ℕ) (c : Bidi) (cs : List Bidi) → IsNoControl c
@@ -136,13 +133,6 @@ filter-none q a (suc m) h =
     ap (λ b. if b then a ∷ filter q (range_with_len (a + 1) m) else filter q (range_with_len (a + 1) m)) here
     ∙ filter-none q (a + 1) m (λ k lt. ap q (let s : (a + 1) + k ≡ a + suc k = omega arith in s) ∙ h (suc k) (omega arith))
 
-pub all-range : (P : ℕ → Type 0) (a m : ℕ) → ((k : ℕ) → k < m → P (a + k)) → All P (range_with_len a m)
-all-range P a zero h = All-nil P
-all-range P a (suc m) h =
-    All-cons P a (range_with_len (a + 1) m)
-    (subst P (let s : a + 0 ≡ a = omega arith in s) (h 0 (omega arith)))
-    (all-range P (a + 1) m (λ k lt. subst P (let s : a + suc k ≡ (a + 1) + k = omega arith in s) (h (suc k) (omega arith))))
-
 -- the places of a chain after one that leads here
 abbrev led : (ℕ → Option ℕ) → ℕ → Option ℕ → List ℕ
 led f m o = elim o [ Some j ↦ chain f m j | None ↦ [] ]
@@ -252,39 +242,3 @@ embedding-uniform p cs h =
     let a = no-controls cs h in
     ap (λ s. let e : Embedding = record { level = p; places = map (kept_at_level p) cs; sequences = s } in e) (sym (sequences-uniform p cs a))
     ∙ ap (λ ps. let e : Embedding = record { level = p; places = ps; sequences = sequences_of p cs ps } in e) (sym (places-uniform p cs a))
-
--- the run of all places
-whole-places : (m : ℕ) → run_places (whole_run (suc m) ∷ []) ≡ below (suc m)
-whole-places m =
-    let all : suc m - 0 ≡ suc m = omega arith in
-    append-nil (own_places (whole_run (suc m))) ∙ ap (range_with_len 0) all
-
-pub one-extent : (p n : ℕ) → extent_sequences (one_run n) (one_extent p n) ≡ one_sequence p n
-one-extent p zero = refl
-one-extent p (suc m) =
-    ap (λ b. extent_sequences (if b then [] else whole_run (suc m) ∷ []) (if b then [] else whole_extent p ∷ [])) (not-zero (suc m) (omega arith))
-    ∙ ap (λ js. (let s : RunSequence = record { places = js; level = p; sos = direction_between p p; eos = direction_between p p } in s) ∷ []) (whole-places m)
-
-positive : (n : ℕ) → (n == 0) ≡ false → 0 < n
-positive n e = elim (eqb_tells n 0) [ inl h ↦ absurd (false≢true (sym e ∙ h.0)) | inr h ↦ (let ne = h.1 in omega arith) ]
-
-within-if : (places : List (Option Kept)) (p n : ℕ) (b : Bool) → (n == 0) ≡ b → All (IsKept places) (below n) →
-    IsWithin places (if b then [] else whole_run n ∷ []) (if b then [] else whole_extent p ∷ [])
-within-if places p n true e kept = record {
-  stretches = All-nil (IsPart []);
-  some = All-nil HasPlace;
-  kept = All-nil (IsKept places);
-}
-within-if places p n false e kept =
-    let all : n - 0 ≡ n = omega arith in
-    record {
-      stretches = All-cons (IsPart (whole_run n ∷ [])) (whole_extent p) [] (omega arith, omega arith) (All-nil (IsPart (whole_run n ∷ [])));
-      some = All-cons HasPlace (whole_run n) [] (positive n e) (All-nil HasPlace);
-      kept = All-same (IsKept places) (run_places (whole_run n ∷ [])) (below n) (append-nil (own_places (whole_run n)) ∙ ap (range_with_len 0) all) kept;
-    }
-
-pub within-one : (p : ℕ) (cs : List Bidi) → IsWithin (map (kept_at_level p) cs) (one_run (length cs)) (one_extent p (length cs))
-within-one p cs =
-    within-if (map (kept_at_level p) cs) p (length cs) (length cs == 0) refl
-    (all-range (IsKept (map (kept_at_level p) cs)) 0 (length cs)
-    (λ k lt. ap (is_kept (map (kept_at_level p) cs)) (zero-add k) ∙ ap is_some (at-place p cs k lt).1))

@@ -1,10 +1,8 @@
 -- A paragraph without controls: each place is kept at the paragraph's level (UAX #9, X6), and all of them are one sequence (X10).
-use Rattle.std.specs.Prelude.{ℕ, zero, suc, ◌≡◌, ◌==◌, ◌||◌, Bool, false, if◌then◌else◌, List, [], ◌∷◌, Option, Some}
+use Rattle.std.specs.Prelude.{ℕ, zero, suc, ◌≡◌, ◌||◌, Bool, false, List, [], ◌∷◌, Option, Some}
 use Rattle.bg_types.specs.declared.class.Bidi.{Bidi}
 use Rattle.paragraphs.specs.Classes.{is_removed, is_isolate_control, is_separator}
-use Rattle.bidi_explicit.specs.declared.embedded.Extent.{Extent}
 use Rattle.bidi_explicit.specs.declared.kept.Kept.{Kept}
-use Rattle.bidi_explicit.specs.declared.level_run.LevelRun.{LevelRun}
 use Rattle.bidi_explicit.specs.Sequences.{RunSequence, below, direction_between}
 
 -- a class that X9 removes, or an isolate control
@@ -27,18 +25,3 @@ abbrev pub one_sequence : (level count : ℕ) → List RunSequence
 one_sequence level zero = []
 one_sequence level (suc n) =
     (record { places = below (suc n); level = level; sos = direction_between level level; eos = direction_between level level }) ∷ []
-
--- the level run of all of them
-abbrev pub whole_run : (count : ℕ) → LevelRun
-whole_run count = record { start = 0; end = count }
-
-abbrev pub one_run : (count : ℕ) → List LevelRun
-one_run count = if count == 0 then [] else whole_run count ∷ []
-
--- the extent of the sequence, in that list of one run
-abbrev pub whole_extent : (level : ℕ) → Extent
-whole_extent level =
-    record { start = 0; end = 1; level = level; sos = direction_between level level; eos = direction_between level level }
-
-abbrev pub one_extent : (level count : ℕ) → List Extent
-one_extent level count = if count == 0 then [] else whole_extent level ∷ []

@@ -6,9 +6,9 @@ ghost use Rattle.bg_types.specs.declared.class.Bidi.TheVariants.{L, Pdi};
 ghost use Rattle.bidi_explicit.specs.Controls.{controls_from, moved, odd_before, control_by, nearest, without_nearest};
 ghost use Rattle.bidi_explicit.specs.Uniform.{is_control};
 
+use crate::class::{BLOCK, has_controls, is_control};
 use crate::kind::Kind;
 use crate::level::strong_level;
-use crate::uniform::{BLOCK, has_controls, is_control};
 use bg_types::{Bidi, Memory};
 use std::alloc::Global;
 use std::marker::Model;

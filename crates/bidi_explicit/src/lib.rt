@@ -1,6 +1,7 @@
 //! Explicit levels and isolating run sequences (UAX #9, X1 to X10).
 #![tactic(auto)]
 
+mod class;
 mod controls;
 mod embedded;
 mod kept;
@@ -14,13 +15,12 @@ mod places;
 mod sequence;
 mod sequences;
 mod stack;
-mod uniform;
 
+pub use class::has_controls;
 pub use embedded::Embedded;
 pub use kept::Kept;
 pub use level::paragraph_level;
 pub use level_run::LevelRun;
 pub use lists::Lists;
-pub use paragraph::{explicit, explicit_at};
+pub use paragraph::explicit;
 pub use sequence::{Places, Sequence};
-pub use uniform::has_controls;

@@ -4,51 +4,15 @@ ghost use Rattle.std.specs.Prelude.{◌≡◌, ◌≤◌, IfOk, length, map, is_
 ghost use Rattle.std.specs.List.{All};
 ghost use Rattle.paragraphs.specs.Text.{code_points};
 ghost use Rattle.paragraphs.specs.Classes.{is_removed};
-ghost use Rattle.bidi_explicit.specs.Embedding.{classes_of, embedding, embedding_at, IsWithinDepth};
+ghost use Rattle.bidi_explicit.specs.Embedding.{classes_of, embedding, IsWithinDepth};
 
 use crate::embedded::Embedded;
 use crate::level::paragraph_level;
 use crate::lists::Lists;
-use crate::uniform::{has_controls, uniform};
-use bg_types::{Base, Bidi, Memory};
+use bg_types::{Base, Memory};
 use paragraphs::Para;
 use std::alloc::Global;
 use unicode_tables::Tables;
-
-/// What the rules make of a paragraph of this level, whatever its classes.
-fn embedded_by_controls(alloc: Global, level: u8, classes: &[Bidi]) -> Result<Embedded, Memory>
-    requires { level ≤ 1 }
-    ensures { IfOk result (λ e. e ≡ embedding_at level classes.now) }
-{
-    let mut embedded = Embedded::new(alloc);
-    let mut lists = Lists::new(alloc);
-    embedded.embed(&mut lists, level, classes)?;
-    Ok(embedded)
-}
-
-/// What the rules make of a paragraph of this level. Without controls all its places are one sequence.
-fn embedded_at(alloc: Global, level: u8, classes: &[Bidi]) -> Result<Embedded, Memory>
-    requires { level ≤ 1 }
-    ensures { IfOk result (λ e. e ≡ embedding_at level classes.now) }
-{
-    if has_controls(classes) {
-        embedded_by_controls(alloc, level, classes)
-    } else {
-        uniform(alloc, level, classes)
-    }
-}
-
-/// What `explicit` answers for a paragraph of this level, 0 or 1, whose code points have these classes.
-/// Cost: O(n), memory for each place.
-pub fn explicit_at(alloc: Global, level: u8, classes: &[Bidi]) -> Result<Embedded, Memory>
-    requires { level ≤ 1 }
-    ensures embedding { IfOk result (λ e. e ≡ embedding_at level classes.now) }
-    ensures places { IfOk result (λ e. length e.places ≡ length classes.now) }
-    ensures sequence_depth { IfOk result (λ e. All (λ s. s.level ≤ 125) e.sequences) }
-{
-    let embedded = embedded_at(alloc, level, classes)?;
-    Ok(embedded)
-}
 
 /// A paragraph's level, what is kept at each of its places with its level and class (X1 to X9), and its
 /// isolating run sequences (X10).
@@ -62,6 +26,7 @@ pub fn explicit(alloc: Global, tables: &Tables, para: &Para, base: Base) -> Resu
 {
     let level = paragraph_level(tables, para, base);
     let classes = tables.bidi_of_text(alloc, para.text())?;
-    let embedded = embedded_at(alloc, level, &classes)?;
+    let mut embedded = Embedded::new(alloc);
+    embedded.embed(&mut Lists::new(alloc), level, &classes)?;
     Ok(embedded)
 }

@@ -7,11 +7,11 @@ ghost use Rattle.bidi_explicit.specs.Levels.{place_of, kept_under, explicit_plac
 ghost use Rattle.bidi_explicit.specs.Uniform.{is_apart};
 ghost use Rattle.bidi_explicit.specs.Controls.{controls_from};
 
+use crate::class::{BLOCK, is_control};
 use crate::controls::Control;
 use crate::kept::Kept;
 use crate::kind::Direction;
 use crate::stack::LevelStack;
-use crate::uniform::{BLOCK, is_control};
 use bg_types::{Bidi, Memory};
 
 /// A place of a class under a direction, in a paragraph of this level.

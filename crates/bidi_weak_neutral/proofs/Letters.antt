@@ -1,15 +1,14 @@
 -- W1 to W7 over letters of one strong type, and marks between and behind them.
 use Rattle.std.proofs.Common.{arith, ℕ, zero, suc, ◌+◌, ◌-◌, ◌<◌, ◌≤◌, ◌≡◌, refl, ap, sym, subst, ◌∙◌, List, [], ◌∷◌, ◌++◌, length, get_or, take, drop, replicate, length-drop, Bool, true, false, rules}
-use Rattle.std.specs.Prelude.{◌&&◌, ◌||◌, not, if◌then◌else◌}
+use Rattle.std.specs.Prelude.{◌&&◌, ◌||◌, if◌then◌else◌}
 use Rattle.std.proofs.Math.Bool.{and-false}
 use Rattle.std.proofs.lemmas.Bool.{false≢true}
 use Rattle.std.proofs.lemmas.List.{append_assoc, drop-drop, drop_more, get_or-drop}
 use denote.Enum.Bare.{same_true}
 use Rattle.bg_types.specs.contracts.class.Bidi.{the_type}
 use Rattle.bg_types.specs.declared.class.Bidi.{Bidi}
-use Rattle.bg_types.specs.declared.class.Bidi.TheVariants.{L, R, Al, En, Es, Et, An, Cs, Nsm, On}
+use Rattle.bg_types.specs.declared.class.Bidi.TheVariants.{L, En, Es, Et, An, Cs, Nsm}
 use Rattle.bidi_weak_neutral.specs.Classes.{is, is_strong}
-use Rattle.bidi_weak_neutral.specs.Weak.{is_joined}
 use Rattle.bidi_weak_neutral.specs.Pass.{lettered, joined, terminated, goes_on, is_past_terminators}
 use Rattle.bidi_weak_neutral.proofs.WeakPass.{weak_from, strong-step, mark-step}
 

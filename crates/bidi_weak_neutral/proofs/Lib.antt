@@ -15,5 +15,4 @@ pub mod UniformLevels
 pub mod Rows
 pub mod PlainRules
 pub mod PlainParagraph
-pub mod Counting
 pub mod Interface

@@ -3,7 +3,6 @@ use Rattle.std.proofs.Common.{ℕ, zero, suc, ◌≡◌, refl, ap, ap₂, sym, s
 use Rattle.std.specs.Prelude.{◌&&◌, if◌then◌else◌}
 use Rattle.std.specs.List.{All, list_all}
 use Rattle.std.proofs.lemmas.Bool.{false≢true}
-use Rattle.std.proofs.lemmas.Option.{none-some}
 use Rattle.std.proofs.lemmas.List.{length-map}
 use Rattle.std.proofs.lemmas.List.Elements.{All-nil, All-cons, All-head, All-tail, All-map}
 use Rattle.bg_types.specs.declared.class.Bidi.{Bidi}
@@ -11,7 +10,6 @@ use Rattle.bg_types.specs.declared.class.Bidi.TheVariants.{L, En, Es, Et, Cs, Ns
 use Rattle.bg_types.specs.declared.class.Base.{Base}
 use Rattle.bg_types.specs.declared.class.Base.TheVariants.{Auto, Left, Right}
 use Rattle.unicode_tables.specs.Tables.{TableValues, bidi_of}
-use Rattle.paragraphs.specs.Text.{code_points}
 use Rattle.paragraphs.specs.Classes.{is_separator, is_removed}
 use Rattle.bidi_explicit.specs.declared.kept.Kept.{Kept}
 use Rattle.bidi_explicit.specs.Embedding.{Embedding, embedding, embedding_at, paragraph_level}
@@ -22,7 +20,7 @@ use Rattle.bidi_weak_neutral.specs.Classes.{is_plain}
 use Rattle.bidi_weak_neutral.specs.Weak.{weak_types}
 use Rattle.bidi_weak_neutral.specs.Neutral.{n1, n2, implicit_level}
 use Rattle.bracket_pairs.specs.N0.{n0}
-use Rattle.bidi_weak_neutral.specs.Levels.{type_of, characters_of, sequence_levels, resolved_levels, levels_of, is_plain_text}
+use Rattle.bidi_weak_neutral.specs.Levels.{type_of, characters_of, sequence_levels, resolved_levels}
 use Rattle.bidi_weak_neutral.proofs.AllLevels.{resolved_levels-all, length-resolved_levels}
 use Rattle.bidi_weak_neutral.proofs.PlainRules.{Plain, plain-On, plain-levels}
 
@@ -161,27 +159,6 @@ and-left false b e = e
 and-right : (a b : Bool) → (a && b) ≡ true → b ≡ true
 and-right true b e = e
 and-right false b e = absurd (false≢true e)
-
--- all classes of a list pass
-all-plain : (tables : TableValues) (points : List ℕ) → list_all (λ c. is_plain (bidi_of tables c)) points ≡ true → All Plain (map (bidi_of tables) points)
-all-plain tables [] e = All-nil Plain
-all-plain tables (c ∷ cs) e =
-    let first : is_plain (bidi_of tables c) ≡ true = and-left _ _ e in
-    All-cons Plain (bidi_of tables c) _ first
-    (all-plain tables cs (and-right _ _ e))
-
--- a text that was counted to its end
-pub plain-levels_of : (tables : TableValues) (base : Base) (text : List ℕ) (n : ℕ) → (base ≡ Right → ⊥)
-    → Some n ≡ (if is_plain_text tables text then Some (length (code_points text)) else None) → replicate n 0 ≡ levels_of tables base text
-plain-levels_of tables base text n free e = counted (is_plain_text tables text) refl
-  where
-    counted : (b : Bool) → is_plain_text tables text ≡ b → replicate n 0 ≡ levels_of tables base text
-    counted true p =
-        let points = code_points text in
-        let same : n ≡ length (code_points text) = let q = e ∙ ap (λ b. if b then Some (length (code_points text)) else None) p in cc in
-        ap (λ k. replicate k 0) same
-        ∙ sym (plain-resolved (map (bidi_of tables) points) (all-plain tables points p) base tables points free (length-map points (bidi_of tables)))
-    counted false p = absurd (none-some n (sym (e ∙ ap (λ b. if b then Some (length (code_points text)) else None) p)))
 
 passing : (cs : List Bidi) → list_all is_plain cs ≡ true → All Plain cs
 passing [] e = All-nil Plain

@@ -1,16 +1,14 @@
 -- NeutralsAndLevels: the resolved levels of a paragraph, by its isolating run sequences.
-use Rattle.std.specs.Prelude.{ℕ, Bool, List, [], ◌∷◌, map, fold, length, replicate, is_some, slice_index, slice_set, unwrap_or, Option, Some, None}
-use Rattle.std.specs.List.{list_all}
+use Rattle.std.specs.Prelude.{ℕ, List, [], ◌∷◌, map, fold, length, replicate, is_some, slice_index, slice_set, unwrap_or, Option, Some, None}
 use Rattle.bg_types.specs.declared.class.Bidi.{Bidi}
 use Rattle.bg_types.specs.declared.class.Bidi.TheVariants.{On}
 use Rattle.bg_types.specs.declared.class.Base.{Base}
-use Rattle.unicode_tables.specs.Tables.{TableValues, bidi_of}
+use Rattle.unicode_tables.specs.Tables.{TableValues}
 use Rattle.paragraphs.specs.Text.{code_points}
 use Rattle.bidi_explicit.specs.declared.kept.Kept.{Kept}
 use Rattle.bidi_explicit.specs.Embedding.{Embedding, embedding, classes_of}
 use Rattle.bidi_explicit.specs.Sequences.{RunSequence, kept_at}
 use Rattle.bracket_pairs.specs.N0.{n0}
-use Rattle.bidi_weak_neutral.specs.Classes.{is_plain}
 use Rattle.bidi_weak_neutral.specs.Context.{in_context, nearest}
 use Rattle.bidi_weak_neutral.specs.Weak.{weak_types}
 use Rattle.bidi_weak_neutral.specs.Neutral.{n1, n2, implicit_level}
@@ -76,7 +74,3 @@ resolved_levels tables points e =
 -- the resolved levels of a paragraph's text, one a code point
 abbrev pub levels_of : TableValues → Base → List ℕ → List ℕ
 levels_of tables base text = resolved_levels tables (code_points text) (embedding base (classes_of tables text))
-
--- all classes of a text are plain
-abbrev pub is_plain_text : TableValues → List ℕ → Bool
-is_plain_text tables text = list_all (λ c. is_plain (bidi_of tables c)) (code_points text)

@@ -9,4 +9,4 @@ mod sequence;
 mod weak;
 
 pub use buffers::Buffers;
-pub use paragraph::{levels, levels_at, levels_into};
+pub use paragraph::{levels, levels_into};

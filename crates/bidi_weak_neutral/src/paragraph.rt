@@ -7,7 +7,7 @@ ghost use Rattle.paragraphs.specs.Text.{code_points};
 ghost use Rattle.bidi_explicit.specs.Embedding.{embedding_at};
 ghost use Rattle.bidi_weak_neutral.specs.Classes.{is_plain};
 ghost use Rattle.bidi_weak_neutral.specs.Uniform.{uniform_levels};
-ghost use Rattle.bidi_weak_neutral.specs.Levels.{kept_levels, filled_levels, types_before, characters_of, types_after_n0, sequence_levels, put_back, resolved_levels, levels_of, is_plain_text};
+ghost use Rattle.bidi_weak_neutral.specs.Levels.{kept_levels, filled_levels, types_before, characters_of, types_after_n0, sequence_levels, put_back, resolved_levels, levels_of};
 
 use crate::buffers::{Buffers, SequenceLists};
 use crate::class::{embedding_direction, is_plain};
@@ -237,7 +237,8 @@ fn resolve_paragraph(
     Ok(())
 }
 
-/// Puts what `levels_at` answers into a list, in place of what it has. After `Memory` the list may have anything.
+/// Puts the levels of a paragraph of this level, 0 or 1, whose code points have these classes, into a list, in place of what it
+/// has. After `Memory` the list may have anything.
 /// Never inlined: as a part of its caller its passes would have fewer registers.
 /// Cost: O(n), memory where the list or the buffers have no room.
 #[inline(never)]
@@ -262,21 +263,18 @@ pub fn levels_into(
     Ok(())
 }
 
-/// What `levels` answers for a paragraph of this level, 0 or 1, of these code points, which have these classes.
+/// The resolved level of each code point of a paragraph, 0 to 126 (UAX #9, 3.3.4 to 3.3.6).
+///
+/// A code point that X9 removes has the level of the one before it, else the paragraph level (own).
 /// Cost: O(n), memory for each place.
-pub fn levels_at(
-    alloc: Global,
-    tables: &Tables,
-    level: u8,
-    points: &[char],
-    classes: &[Bidi],
-) -> Result<Vec<u8>, Memory>
-    requires level { level ≤ 1 }
-    requires classes { classes.now ≡ map (bidi_of tables.now) points.now }
-    ensures levels { IfOk result (λ levels. levels.items ≡ resolved_levels tables.now points.now (embedding_at level classes.now)) }
-    ensures one_each { IfOk result (λ levels. length levels.items ≡ length points.now) }
+pub fn levels(alloc: Global, tables: &Tables, para: &Para, base: Base) -> Result<Vec<u8>, Memory>
+    ensures levels { IfOk result (λ levels. levels.items ≡ levels_of tables.now base para.now.text) }
+    ensures one_each { IfOk result (λ levels. length levels.items ≡ length (code_points para.now.text)) }
     ensures bound { IfOk result (λ levels. All (λ level. level ≤ 126) levels.items) }
 {
+    let points = code_points_of(alloc, para.text())?;
+    let classes = tables.bidi_of_text(alloc, para.text())?;
+    let level = paragraph_level(tables, para, base);
     let mut levels = Vec::new(alloc);
     let mut buffers = Buffers::new(alloc);
     levels_into(
@@ -285,55 +283,8 @@ pub fn levels_at(
         &mut buffers,
         tables,
         level,
-        points,
-        classes,
+        &points,
+        &classes,
     )?;
     Ok(levels)
-}
-
-/// The resolved levels of any paragraph.
-fn levels_of_any(alloc: Global, tables: &Tables, para: &Para, base: Base) -> Result<Vec<u8>, Memory>
-    ensures levels { IfOk result (λ levels. levels.items ≡ levels_of tables.now base para.now.text) }
-    ensures one_each { IfOk result (λ levels. length levels.items ≡ length (code_points para.now.text)) }
-    ensures bound { IfOk result (λ levels. All (λ level. level ≤ 126) levels.items) }
-{
-    let points = code_points_of(alloc, para.text())?;
-    let classes = tables.bidi_of_each(alloc, &points)?;
-    let level = paragraph_level(tables, para, base);
-    levels_at(alloc, tables, level, &points, &classes)
-}
-
-/// The number of code points of a text that goes left to right by itself, else `None`.
-fn plain_count(tables: &Tables, text: &str) -> Option<usize>
-    ensures { result ≡ (if is_plain_text tables.now text.now then Some (length (code_points text.now)) else None) }
-{
-    let mut count = 0;
-    let mut chars = text.chars();
-    while let Some(c) = chars.next() {
-        if !is_plain(tables.bidi(c)) {
-            return None;
-        }
-        count += 1;
-    }
-    Some(count)
-}
-
-/// The resolved level of each code point of a paragraph, 0 to 126 (UAX #9, 3.3.4 to 3.3.6).
-///
-/// A code point that X9 removes has the level of the one before it, else the paragraph level (own).
-/// A text that goes left to right by itself costs one look at each code point, unless the base says right to left.
-/// Cost: O(n), memory for each place.
-pub fn levels(alloc: Global, tables: &Tables, para: &Para, base: Base) -> Result<Vec<u8>, Memory>
-    ensures levels { IfOk result (λ levels. levels.items ≡ levels_of tables.now base para.now.text) }
-    ensures one_each { IfOk result (λ levels. length levels.items ≡ length (code_points para.now.text)) }
-    ensures bound { IfOk result (λ levels. All (λ level. level ≤ 126) levels.items) }
-{
-    // Under a base of level 1 no paragraph is at level 0.
-    if let Base::Right = base {
-        return levels_of_any(alloc, tables, para, base);
-    }
-    match plain_count(tables, para.text()) {
-        Some(count) => Ok(vec![in alloc; 0; count]?),
-        None => levels_of_any(alloc, tables, para, base),
-    }
 }

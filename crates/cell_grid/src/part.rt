@@ -10,7 +10,7 @@ use line_break::ShapeRun;
 use paragraphs::Span;
 
 /// How far a paragraph's runs are read.
-#[derive(Clone, Copy, Debug)]
+#[derive(Clone, Copy)]
 pub(crate) struct Cursor {
     /// What is left of the run that is read.
     pub(crate) first: ShapeRun,

@@ -4,9 +4,9 @@ ghost use Rattle.std.specs.Prelude.{◌≡◌, ◌≤◌, true, [], ◌∷◌, l
 ghost use Rattle.cell_grid.specs.Separators.{IsSeparatorAlone, separator_row};
 
 use crate::row::Row;
-use bg_types::{Bidi, Memory};
+use bg_types::Memory;
 use std::alloc::Global;
-use unicode_tables::Tables;
+use unicode_tables::{Tables, is_separator};
 
 /// Whether a text is one character, which ends paragraphs.
 #[inline]
@@ -15,8 +15,8 @@ pub(crate) fn is_separator_alone(tables: &Tables, text: &str) -> bool
 {
     let mut chars = text.chars();
     match chars.next() {
-        Some(c) if chars.as_str().is_empty() => matches!(tables.bidi(c), Bidi::B),
-        _ => false,
+        Some(c) => chars.as_str().is_empty() && is_separator(tables.bidi(c)),
+        None => false,
     }
 }
 

@@ -15,7 +15,7 @@ use reorder::visual_into;
 use std::alloc::Global;
 
 /// Pieces of one level that follow each other in a line: from the one with this number up to the one with that.
-#[derive(Clone, Copy, Debug)]
+#[derive(Clone, Copy)]
 pub(crate) struct Stretch {
     first: u32,
     end: u32,

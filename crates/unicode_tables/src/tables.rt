@@ -141,14 +141,6 @@ impl Tables {
         self.words.at(c as usize).bidi
     }
 
-    /// Bidi_Class of each of these characters.
-    /// Cost: O(n), memory for the classes.
-    pub fn bidi_of_each(&self, alloc: Global, points: &[char]) -> Result<Vec<Bidi>, Memory>
-        ensures { IfOk result (λ classes. classes.items ≡ map (bidi_of self.now) points.now) }
-    {
-        Ok(points.iter().map(|c| self.bidi(*c)).collect(alloc)?)
-    }
-
     /// Bidi_Class of each character of a text.
     /// Cost: O(n), memory for the classes.
     pub fn bidi_of_text(&self, alloc: Global, text: &str) -> Result<Vec<Bidi>, Memory>

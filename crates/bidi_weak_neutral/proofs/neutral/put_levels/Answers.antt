@@ -1,5 +1,5 @@
 -- The goals of `put_levels` that are answered by hand.
-use Rattle.std.proofs.Common.{arith, refl, ◌+◌, ◌<◌, ◌≡◌, ◌∙◌, ◌++◌, ap, sym, subst, length, get_or, take, drop, append-nil, true, false}
+use Rattle.std.proofs.Common.{arith, refl, ◌+◌, ◌<◌, ◌≡◌, ◌∙◌, ◌++◌, ap, sym, subst, length, get_or, take, append-nil, true, false}
 use Rattle.std.specs.Prelude.{not}
 use Rattle.std.proofs.lemmas.Bool.{true≢false}
 use Rattle.std.proofs.lemmas.List.{get_or_default, drop_all, take_all}

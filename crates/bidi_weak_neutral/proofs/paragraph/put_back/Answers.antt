@@ -1,6 +1,5 @@
 -- The goals of `put_back` that are answered by hand.
 use Rattle.std.proofs.Common.{ℕ, List, Option, ◌+◌, ◌<◌, ◌≤◌, ◌∙◌, length, get_or, drop, ap, ap₂, sym, subst}
-use Rattle.std.specs.List.{All}
 use Rattle.bidi_explicit.specs.declared.kept.Kept.{Kept}
 use Rattle.bidi_explicit.proofs.Interface.{is_kept-within}
 use Rattle.bidi_weak_neutral.specs.Levels.{levels_at, put_back, sequence_levels}

@@ -1,8 +1,7 @@
 -- One run more: its levels are the next of the sequence's.
-use Rattle.std.proofs.Common.{◌<◌, ◌≤◌, ◌≡◌, ◌-◌, ◌+◌, ◌∙◌, ◌++◌, ap, sym, length, get_or, drop, arith}
+use Rattle.std.proofs.Common.{◌<◌, ◌≤◌, ◌-◌, ◌∙◌, ◌++◌, ap, sym, length, get_or, drop, arith}
 use Rattle.std.proofs.lemmas.List.{take-append-drop}
 use Rattle.bidi_explicit.specs.declared.level_run.LevelRun.{LevelRun}
-use Rattle.bidi_explicit.specs.LevelRuns.{run_places}
 use Rattle.bidi_weak_neutral.proofs.RunPlaces.{run-within, rest-long, put-more}
 use Rattle.bidi_weak_neutral.proofs.sequence.put_at_runs.Goals as goal
 

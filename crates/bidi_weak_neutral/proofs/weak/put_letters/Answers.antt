@@ -1,5 +1,5 @@
 -- The goals of `put_letters` that are answered by hand.
-use Rattle.std.proofs.Common.{arith, ℕ, ◌<◌, ◌≡◌, ◌-◌, ◌++◌, ◌∙◌, sym, subst, length, get_or, take, replicate, below_more, true}
+use Rattle.std.proofs.Common.{arith, ◌<◌, ◌≡◌, ◌-◌, ◌++◌, ◌∙◌, sym, subst, length, get_or, take, replicate, below_more, true}
 use Rattle.std.proofs.lemmas.List.{length-set}
 use Rattle.bg_types.specs.declared.class.Bidi.TheVariants.{L}
 use Rattle.bidi_weak_neutral.specs.Pass.{goes_on}

@@ -5,7 +5,7 @@ use Rattle.std.proofs.lemmas.List.{take_all}
 use Rattle.std.proofs.lemmas.List.Folds.{list_any_more}
 use Rattle.bg_types.specs.declared.class.Bidi.TheVariants.{L}
 use Rattle.bidi_explicit.specs.Uniform.{is_control}
-use Rattle.bidi_explicit.proofs.uniform.has_controls.Goals as goal
+use Rattle.bidi_explicit.proofs.class.has_controls.Goals as goal
 
 pub loop-class-preserved : goal.loop-class-preserved
 loop-class-preserved c =
