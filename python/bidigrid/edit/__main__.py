@@ -106,6 +106,7 @@ def run(editor: Editor, screen: Screen, watch: Watch, waker: int, is_ended: list
         is_due = begun >= due or not (desk.patience() == 0.0 or watch.has_more())
         if desk.is_changed and is_due and not screen.outlet.rest:
             desk.is_changed = False
+            screen.tell(editor.clipboard.tell())
             screen.draw(view_of(editor))
             ended = time.monotonic()
             due = ended + max(DRAWN, 4 * (ended - begun))
@@ -116,6 +117,7 @@ def press(editor: Editor, unread: Unread, keys: Keys, key: Key) -> None:
     """Presses a key, whose bytes are unread until that is done."""
     unread.begin(keys, editor.desk.caret)
     editor.press(key)
+    unread.is_word = editor.is_seeking
     unread.end(keys, editor.desk.caret)
 
 

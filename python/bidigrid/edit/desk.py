@@ -110,9 +110,9 @@ class Desk:
         first, last = ends
         return self.document.place_of(first), carets.place_behind(self.document, last) or 0
 
-    def take_back(self) -> Iterator[int | None]:
-        """Takes one's last edit back that is still to be seen, in pieces; yields after each where that was."""
-        return self.edits.take_back(lambda: self.document, self.made, lambda: backwards(self.log, self.held))
+    def take_back(self, again: bool = False) -> Iterator[int | None]:
+        """Takes one's last edit back, or does again what was taken back last, in pieces; yields after each where that was."""
+        return self.edits.take_back(lambda: self.document, self.made, lambda: backwards(self.log, self.held), again)
 
     def change_ambiguous(self) -> Iterator[None]:
         """Characters of ambiguous width take two cells where they took one, and one where they took two: in another document,

@@ -1,41 +1,46 @@
-"""What each key does: a caret that goes as the eye sees it, a selection, and edits at the desk."""
+"""What each key does: a caret that goes as the eye sees it, and edits at the desk."""
 
 from __future__ import annotations
 
 from collections.abc import Callable, Iterator
 from typing import get_args
 
-from .. import Fault, Position
+from .. import Fault, Identifier, Position
 from ..given import Base
 from . import carets, moves
-from .desk import Desk
+from .clipboard import Clipboard
+from .desk import LONG, Desk
 from .disk import write_whole
 from .fault import reason
-from .frames import PIECE
+from .frames import PIECE, last_identifier
 from .keys import Key, plain
-from .standing import Standing
+from .seeking import Seeking
 from .undo import Edit
 
 BASES: tuple[Base, ...] = get_args(Base)
 
 
-class Editor(Standing):
+class Editor(Seeking):
     """A desk, and what is done at it where one stands in its text."""
 
     def __init__(self, desk: Desk, height: int, text_path: str) -> None:
         super().__init__(desk, height)
         self.text_path = text_path
         self.goal: int | None = None
-        self.marked: carets.Between | None = None
-        self.is_marking = False
-        self.is_left = self.is_leaving = self.is_warned = False
+        self.clipboard = Clipboard()
+        self.is_left = self.is_leaving = self.is_warned = self.is_helping = False
         self.pasted: Edit | None = None
         self.pressed = 0
         self.edits: dict[str, Callable[[], None]] = {
             "backspace": self.backspace,
             "delete": self.delete,
             "pasted": self.end_paste,
-            "ctrl-z": lambda: self.desk.begin_job(self.take_back(self.desk.take_back(), self.pressed)),
+            "ctrl-z": lambda: self.follow(self.desk.take_back(), "nothing to take back"),
+            "ctrl-y": lambda: self.follow(self.desk.take_back(again=True), "nothing to do again"),
+            "ctrl-c": self.copy,
+            "ctrl-x": self.cut,
+            "ctrl-v": self.type_copied,
+            "ctrl-f": self.begin_seeking,
             "ctrl-s": self.write_text,
             "ctrl-q": self.leave,
             "ctrl-a": self.select_all,
@@ -51,13 +56,17 @@ class Editor(Standing):
             self.desk.notice = ""
         at = None
         self.pressed += 1
+        self.is_helping = key.name == "f1" and not self.is_helping
         try:
-            if key.name in ("text", "paste"):
-                self.type(key)
-            elif key.name in self.edits:
-                self.edits[key.name]()
-            elif at := self.moved(key.name.removeprefix("shift-")):
-                self.go(at, key.name)
+            left = self.seek(key) if self.is_seeking else key
+            if not left:
+                self.goal = None
+            elif left.name in ("text", "paste"):
+                self.type(left)
+            elif left.name in self.edits:
+                self.edits[left.name]()
+            elif at := self.moved(left.name.removeprefix("shift-")):
+                self.go(at, left.name)
         except (Fault, MemoryError) as fault:
             self.desk.notice = str(fault) or "memory"
         if at:
@@ -89,34 +98,6 @@ class Editor(Standing):
             if start < at.place < stop:
                 at = self.document.position_at(start)
         self.stand(at)
-
-    # The selection
-
-    def begin_selection(self) -> None:
-        """Selects from here on."""
-        self.marked = self.between
-        self.is_marking = True
-
-    def end_selection(self) -> None:
-        """Selects nothing."""
-        self.marked = None
-        self.is_marking = False
-
-    def select_all(self) -> None:
-        """Selects the whole text."""
-        self.marked = carets.between(self.document, 0)
-        self.stand(self.document.position_at(len(self.document)))
-
-    def selected(self) -> tuple[int, int]:
-        """From which place up to which other one; the caret's twice where nothing is selected. What others type at an end
-        of the selection is out of it."""
-        here = self.place()
-        if self.marked is None:
-            return here, here
-        there = carets.place_behind(self.document, self.marked[0]) or 0
-        first = self.marked[1] if there <= here else self.between[1]
-        start, stop = min(here, there), max(here, there)
-        return (start if first is None else min(stop, self.document.place_of(first))), stop
 
     # Edits
 
@@ -150,9 +131,14 @@ class Editor(Standing):
         start, stop = self.selected()
         self.replace(start, stop if start < stop else moves.cluster_behind(self.document, start), "")
 
-    def take_back(self, places: Iterator[int | None], pressed: int) -> Iterator[object]:
-        """Takes one's last edit back, in pieces. The caret goes there, unless a key is pressed meanwhile."""
+    def follow(self, places: Iterator[int | None], otherwise: str) -> None:
+        """Edits in pieces, which answer where they were; where none was anywhere that is reported. The caret goes there, unless
+        a key is pressed meanwhile."""
         self.end_selection()
+        self.desk.begin_job(self.followed_by(places, otherwise, self.pressed))
+
+    def followed_by(self, places: Iterator[int | None], otherwise: str, pressed: int) -> Iterator[object]:
+        """The pieces of that."""
         is_seen = False
         for place in places:
             if place is not None:
@@ -161,7 +147,40 @@ class Editor(Standing):
                     self.stand_behind(place)
             yield place
         if not is_seen:
-            self.desk.notice = "nothing to take back"
+            self.desk.notice = otherwise
+
+    def copy(self) -> None:
+        """Copies what is selected, as it is read."""
+        start, stop = self.selected()
+        if start < stop:
+            self.desk.notice = self.clipboard.put(self.document.text[start:stop])
+
+    def cut(self) -> None:
+        """Copies what is selected, and erases it."""
+        self.copy()
+        self.replace(*self.selected(), "")
+
+    def type_copied(self) -> None:
+        """Types what was copied last, in the place of what is selected, as one edit: a long text in pieces."""
+        text = self.clipboard.text
+        if not text:
+            self.desk.notice = "nothing is copied"
+            return
+        self.desk.edits.close()
+        edit = self.replace(*self.selected(), text[:LONG])
+        self.desk.edits.close()
+        if edit and len(text) > LONG:
+            self.follow(self.typed_on(text[LONG:], edit, self.desk.caret), "")
+
+    def typed_on(self, text: str, edit: Edit, last: Identifier | None) -> Iterator[int]:
+        """Types the rest of a long text in pieces, the first behind a character; yields after each where it ends."""
+        for piece in (text[at : at + LONG] for at in range(0, len(text), LONG)):
+            place = carets.place_behind(self.document, last) or 0
+            message = self.document.type(place, piece)
+            self.desk.edits.add(message, "", edit)
+            self.desk.made(message)
+            last = last_identifier(message)
+            yield place + len(piece)
 
     # The rest
 

@@ -20,6 +20,7 @@ AS_IT_STANDS, AS_IT_IS_READ = b"\x1b[8l\x1b]5379;use_ctl=false\x07", b"\x1b[8h\x
 # What every terminal shows in one column.
 PLAIN = re.compile("[ -~\u00a1-\u00ac\u00ae-\u02ff\u0370-\u0482\u048a-\u0590\u05be\u05c0\u05c3\u05c6\u05d0-\u05f4"
                    "\u061b-\u064a\u0660-\u066f\u0671-\u06d5\u06ee-\u070d]*")  # fmt: skip
+WIDEST = 500  # columns of a row
 COLOURS = (curses.COLOR_RED, curses.COLOR_GREEN, curses.COLOR_YELLOW, curses.COLOR_BLUE, curses.COLOR_MAGENTA,
            curses.COLOR_CYAN)  # fmt: skip
 
@@ -88,6 +89,11 @@ class Screen:
         self.window.refresh()
         self.outlet.flush()
 
+    def tell(self, words: bytes) -> None:
+        """Tells the terminal something that isn't seen."""
+        if words:
+            os.write(1, words)
+
     def line(self, view: View, number: int) -> object:
         """All that a line's look depends on."""
         if number >= len(view.rows):
@@ -121,8 +127,11 @@ class Screen:
                 self.window.chgat(number, min(column, columns - 1), 1, self.looks[site % len(self.looks)])
 
     def draw_status(self, number: int, columns: int, status: str) -> None:
-        """Draws the last line."""
-        self.put(number, 0, status[: columns - 1].ljust(columns - 1), curses.A_REVERSE)
+        """Draws the last line, laid out as the text is."""
+        # A path may have bytes that are no character.
+        status = status.encode(errors="replace").decode()
+        shown = status if self.is_logical else str(layout(status, WIDEST, "left")).partition("\n")[0]
+        self.put(number, 0, shown[: columns - 1].ljust(columns - 1), curses.A_REVERSE)
 
     def put(self, line: int, column: int, text: str, look: int = curses.A_NORMAL) -> None:
         """Writes a text. The last cell of the screen is left out, since the terminal would scroll."""

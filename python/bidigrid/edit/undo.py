@@ -32,11 +32,17 @@ class Return:
     old: list[Identifier]
 
 
+Lists = tuple[list[Edit], list[Edit]]
+"""The edits of which one is taken back, and those to which belongs what that does."""
+
+
 class Edits:
-    """The edits that can be taken back. What is typed again after it was erased has another identifier then."""
+    """The edits that can be taken back, and what took some back and can be taken back too. What is typed again after it was
+    erased has another identifier then."""
 
     def __init__(self) -> None:
         self.made: list[Edit] = []
+        self.undone: list[Edit] = []
         self.renamed: dict[Identifier, Identifier] = {}
 
     def add(self, message: bytes, typed: str, joined: Edit | None = None) -> Edit:
@@ -45,6 +51,8 @@ class Edits:
         first = next(operations(message))
         is_key = len(typed) == 1 and first.character is not None
         last = self.made[-1] if self.made else None
+        # What is done in another way now isn't done again.
+        self.undone = []
         if joined:
             joined.messages.append(message)
             return joined
@@ -66,22 +74,37 @@ class Edits:
             identifier = self.renamed[identifier]
         return identifier
 
-    def take_back(self, now: Callable[[], Document], made: Made, kept: Kept) -> Iterator[int | None]:
-        """Takes the last edit back that is still to be seen, in pieces, and answers after each where that was, or nothing
-        where nothing was seen. `now` has the document, `kept` the operations of the text, and `made` takes new messages."""
-        return self.take_out(self.made.pop() if self.made else None, len(self.made), now, made, kept)
+    def take_back(self, now: Callable[[], Document], made: Made, kept: Kept, again: bool) -> Iterator[int | None]:
+        """Takes the last edit back that is still to be seen, or what took one back, in pieces, and answers after each where that
+        was, or nothing where nothing was seen. `now` has the document, `kept` the operations of the text, and `made` takes new
+        messages. These are an edit, which can be taken back in turn."""
+        source, target = (self.undone, self.made) if again else (self.made, self.undone)
+        edit = source.pop() if source else None
+        return self.take_out(edit, len(source), (source, target), now, made, kept)
 
     def take_out(
-        self, edit: Edit | None, at: int, now: Callable[[], Document], made: Made, kept: Kept
+        self, edit: Edit | None, at: int, lists: Lists, now: Callable[[], Document], made: Made, kept: Kept
     ) -> Iterator[int | None]:
         """Takes an edit back, or where nothing of it is seen the one before, and so on: that which stands before `at`."""
-        is_done = False
+        source, target = lists
+        back, is_done = Edit([], False), False
+        piece: list[bytes] = []
+
+        def take(message: bytes) -> None:
+            piece.append(message)
+            made(message)
+
         while edit and not is_done:
-            for place in itertools.chain(self.erase(now(), made, edit), self.type(now(), made, edit, kept)):
+            for place in itertools.chain(self.erase(now(), take, edit), self.type(now(), take, edit, kept)):
                 is_done = is_done or place is not None
+                # A piece goes from its last range to the first, and an edit has them in the order of the text.
+                back.messages += reversed(piece)
+                piece.clear()
                 yield place
-            at = min(at, len(self.made)) - 1
-            edit = self.made.pop(at) if at >= 0 and not is_done else None
+            at = min(at, len(source)) - 1
+            edit = source.pop(at) if at >= 0 and not is_done else None
+        if back.messages:
+            target.append(back)
 
     def erase(self, document: Document, made: Made, edit: Edit) -> Iterator[int | None]:
         """Erases what an edit typed."""

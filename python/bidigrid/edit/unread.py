@@ -15,7 +15,7 @@ from .memory import MemoryFile
 from .staging import OVERLAP
 
 PIECE = 1 << 14  # bytes that are pressed at once
-HEAD = struct.Struct(f">Q?Q?IHQ{OVERLAP}s")
+HEAD = struct.Struct(f">Q?Q??IHQ{OVERLAP}s")
 
 
 class Mark(NamedTuple):
@@ -32,14 +32,15 @@ class Mark(NamedTuple):
 
 
 class Head(NamedTuple):
-    """The head of the file: up to where the keys are done, up to where they are once the key is done that is being pressed, the
-    identifier that one stands behind before that, and how far the log goes then, with its last bytes, by which it is known
-    again."""
+    """The head of the file: up to where the keys are done, up to where they are once the key is done that is being pressed,
+    whether a word is asked for that is sought, the identifier that one stands behind before that key, and how far the log goes
+    then, with its last bytes, by which it is known again."""
 
     size: int
     is_pasting: bool
     ahead: int
     goes_on: bool
+    is_word: bool
     counter: int
     site: int
     end: int
@@ -65,6 +66,7 @@ class Unread:
         self.size = self.taken = 0
         self.came = bytearray()
         self.done = Mark()
+        self.is_word = False  # set while what comes is a word that is sought, and no part of the text
 
     def put(self, data: bytes) -> None:
         """Keeps what has come. Any thread may do that."""
@@ -102,13 +104,13 @@ class Unread:
     def tell(self, ahead: Mark, caret: Identifier | None) -> None:
         """Writes the head."""
         tail = (self.log.tail() + self.log.waiting[-OVERLAP:])[-OVERLAP:]
-        self.file.put(HEAD.pack(*self.done, *ahead, *(caret or (0, 0)), self.log.end(), tail), 0)
+        self.file.put(HEAD.pack(*self.done, *ahead, self.is_word, *(caret or (0, 0)), self.log.end(), tail), 0)
 
     def left(self) -> Left:
         """Has come again what an editor had not done that was killed."""
         held = self.file.read(0)
         head = Head(*HEAD.unpack(held[: HEAD.size])) if len(held) > HEAD.size else None
-        if not head or not self.is_known(head):
+        if not head or head.is_word or not self.is_known(head):
             return Left(Keys(), None, 0)
         self.put(held[HEAD.size :])
         self.done, typed = Mark(head.size, head.is_pasting), 0

@@ -7,6 +7,7 @@ from typing import NamedTuple
 from .. import Row
 from . import carets
 from .editor import Editor
+from .help import keys_at
 
 NAMED = 3  # of those who are here
 
@@ -27,6 +28,9 @@ def view_of(editor: Editor) -> View:
     """What is to be seen now."""
     editor.settle()
     rows = editor.shown
+    if editor.is_helping:
+        width = editor.document.width
+        return View(width, keys_at(width, editor.height), 0, 0, (0, 0), (), status(editor))
     column = carets.column_of_gap(rows[editor.line], editor.at.gap)
     seen = tuple(others(editor, rows))
     return View(editor.document.width, rows, editor.line, column, editor.selected(), seen, status(editor))
@@ -46,13 +50,16 @@ def others(editor: Editor, rows: tuple[Row, ...]) -> list[tuple[int, int, int]]:
 
 
 def status(editor: Editor) -> str:
-    """The site, the connection, how long the text is, how it is laid out, who else is here, and what is to be reported."""
+    """The site, the connection, how long the text is, how it is laid out, who else is here, and what is to be reported; or what
+    is asked for."""
+    if editor.is_seeking:
+        return editor.asked()
     desk = editor.desk
     here = [f"{here.name or '?'} ({site})" for site, here in sorted(desk.here().items())]
     parts = [f"site {desk.site}", desk.state(), f"{len(editor.document):,} characters"]
     if here:
         more = f" and {len(here) - NAMED} more" if len(here) > NAMED else ""
         parts.append(f"with {', '.join(here[:NAMED])}{more}")
-    parts += [f"F2 {editor.document.base}", f"F3 {'wide' if desk.wide_ambiguous else 'narrow'}"]
+    parts += [f"F2 {editor.document.base}", f"F3 {'wide' if desk.wide_ambiguous else 'narrow'}", "F1 keys"]
     line = " | ".join(parts)
     return f"{desk.notice} | {line}" if desk.notice else line

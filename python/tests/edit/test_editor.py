@@ -1,5 +1,6 @@
 """What keys do while others write: the caret stays at its character, and one's own edits alone are taken back."""
 
+import base64
 import os
 import threading
 from collections.abc import Iterator
@@ -126,6 +127,113 @@ def test_words_are_taken_back_one_by_one(pair: Pair) -> None:
     assert pair.text() == "tea |"
     pair.press("ctrl-z")
     assert pair.text() == "|"
+
+
+def test_what_was_taken_back_is_done_again(pair: Pair) -> None:
+    for character in "tea and":
+        pair.press(f"'{character}'")
+    pair.press("ctrl-z", "ctrl-z")
+    assert pair.text() == "|"
+    pair.press("ctrl-y")
+    assert pair.text() == "tea |"
+    pair.press("ctrl-y", "ctrl-y")
+    assert (pair.text(), pair.desk.notice) == ("tea and|", "nothing to do again")
+    pair.press("ctrl-z", "ctrl-y", "ctrl-z")
+    assert pair.text() == "tea |"
+    pair.press("'!'", "ctrl-y")
+    assert (pair.text(), pair.desk.notice) == ("tea !|", "nothing to do again")
+
+
+def test_what_others_wrote_stays_where_an_edit_is_done_again(pair: Pair) -> None:
+    pair.press("'tea'", "ctrl-a", "'milk'")
+    pair.meet()
+    pair.take(pair.other.type(2, "X"))
+    pair.press("ctrl-z")
+    pair.meet()
+    pair.take(pair.other.type(0, "Y"))
+    assert sorted(pair.desk.document.text) == sorted("teaXY")
+    pair.press("ctrl-y")
+    assert pair.desk.document.text.replace("Y", "") == "miXlk"
+    pair.press("ctrl-z", "ctrl-z")
+    assert sorted(pair.desk.document.text) == sorted("XY")
+    pair.press("ctrl-y", "ctrl-y")
+    assert pair.desk.document.text.replace("Y", "") == "miXlk"
+
+
+def test_what_is_copied_is_typed_elsewhere_as_it_is_read(pair: Pair) -> None:
+    pair.press("'ab שלום cd'", "ctrl-c")
+    assert (pair.desk.notice, pair.editor.clipboard.tell()) == ("", b"")
+    pair.press("home", "shift-ctrl-right", "shift-ctrl-right", "shift-ctrl-right", "ctrl-c")
+    start, stop = pair.editor.selected()
+    copied = "ab שלום cd"[start:stop]
+    assert "של" in copied and pair.desk.notice == f"{len(copied)} characters copied"
+    assert pair.editor.clipboard.tell() == b"\x1b]52;c;" + base64.b64encode(copied.encode()) + b"\x07"
+    assert pair.editor.clipboard.tell() == b""
+    pair.press("ctrl-end", "ctrl-v", "ctrl-v")
+    assert pair.text() == f"ab שלום cd{copied}{copied}|"
+    pair.press("ctrl-z")
+    assert pair.text() == f"ab שלום cd{copied}|"
+
+
+def test_what_is_cut_is_gone_and_typed_in_place_of_what_is_selected(pair: Pair) -> None:
+    pair.press("'tea, milk'", "home", "shift-ctrl-right", "ctrl-x")
+    assert (pair.text(), pair.editor.clipboard.text) == ("|, milk", "tea")
+    pair.press("ctrl-x", "end", "shift-ctrl-left", "ctrl-v")
+    assert pair.text() == ", tea|"
+    pair.press("ctrl-z", "ctrl-z")
+    assert pair.desk.document.text == "tea, milk"
+
+
+def test_nothing_is_typed_where_nothing_was_copied(pair: Pair) -> None:
+    pair.press("'tea'", "ctrl-a", "ctrl-v")
+    assert (pair.desk.document.text, pair.desk.notice) == ("tea", "nothing is copied")
+
+
+def test_what_is_copied_steers_no_terminal(pair: Pair) -> None:
+    pair.take(pair.other.type(0, "\x1b[2Jtea\x07"))
+    pair.press("ctrl-a", "ctrl-c")
+    assert pair.editor.clipboard.text == "[2Jtea"
+
+
+def test_much_is_copied_for_this_editor_alone(pair: Pair) -> None:
+    pair.take(pair.other.type(0, "x" * 75_000))
+    pair.press("ctrl-a", "ctrl-c")
+    assert pair.editor.clipboard.tell() == b"" and "too many for the terminal's clipboard" in pair.desk.notice
+
+
+def test_a_word_is_found_while_it_is_typed(pair: Pair) -> None:
+    pair.press("'tea, milk, tea and team'", "ctrl-home", "right", "ctrl-f")
+    assert view_of(pair.editor).status.startswith("find:  |")
+    pair.press("'t'", "'e'")
+    assert pair.editor.selected() == (11, 13)
+    pair.press("'am'")
+    assert pair.editor.selected() == (19, 23)
+    pair.press("backspace", "ctrl-f", "ctrl-f")
+    assert pair.editor.selected() == (0, 3)
+    pair.press("'x'")
+    assert pair.editor.selected() == (0, 3) and view_of(pair.editor).status.startswith("find: teax (is not there)")
+    pair.press("escape")
+    assert pair.text() == "t|ea, milk, tea and team" and pair.editor.selected() == (1, 1)
+    pair.press("ctrl-f", "'milk'", "'\n'")
+    assert pair.editor.selected() == (5, 9) and view_of(pair.editor).status.startswith("site 1")
+    pair.press("'cake'", "ctrl-f", "ctrl-f")
+    assert pair.text().replace("|", "") == "tea, cake, tea and team" and view_of(pair.editor).status.startswith("find: milk (")
+
+
+def test_what_comes_with_the_end_of_a_word_is_typed(pair: Pair) -> None:
+    pair.press("'tea milk'", "ctrl-home", "ctrl-f", "'milk\ncake'")
+    assert pair.text() == "tea cake|"
+    pair.press("ctrl-f", "'tea'", "right", "'x'")
+    assert pair.text() == "tea x|cake"
+
+
+def test_a_word_is_sought_from_where_one_stood_whatever_others_write(pair: Pair) -> None:
+    pair.press("'tea tea tea'", "left", "left", "left", "left", "ctrl-f", "'t'")
+    assert pair.editor.selected() == (8, 9)
+    pair.meet()
+    pair.take(pair.other.type(0, "tea "))
+    pair.press("'ea'")
+    assert pair.editor.selected() == (12, 15)
 
 
 def test_typing_replaces_what_is_selected(pair: Pair) -> None:

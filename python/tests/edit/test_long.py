@@ -102,6 +102,27 @@ def test_a_key_is_written_while_a_paste_is_taken_back(editor: Editor) -> None:
     assert finish(editor) > 1 and editor.document.text == "x" and editor.at.place == 1
 
 
+def test_a_key_is_written_while_much_that_was_copied_is_typed(editor: Editor) -> None:
+    paste(editor, LONG * 4)
+    press(editor, "ctrl-a", "ctrl-x")
+    finish(editor)
+    assert editor.document.text == "" and editor.clipboard.text == LONG * 4
+    press(editor, "'ab'", "left", "ctrl-v")
+    assert editor.desk.jobs and editor.at.place == 1 + 2 * desks_module.LONG
+    press(editor, "'x'")
+    assert written(editor.desk)[-1] == "x" and editor.desk.jobs
+    editor.desk.take(Message("another", Document(2).type(0, "Y")))
+    assert finish(editor) >= len(LONG) * 4 // desks_module.LONG
+    assert editor.document.text.replace("Y", "") == f"a{LONG * 4}xb"
+    assert editor.at.place == editor.document.text.index("x") + 1
+    press(editor, "ctrl-z", "ctrl-z")
+    finish(editor)
+    assert editor.document.text.replace("Y", "") == "ab"
+    press(editor, "ctrl-y")
+    finish(editor)
+    assert editor.document.text.replace("Y", "") == f"a{LONG * 4}b"
+
+
 def test_a_key_is_written_while_what_was_erased_is_typed_again(editor: Editor) -> None:
     other = Document(2)
     editor.desk.take(Message("another", gathered(other.type(0, LONG)[5:])))

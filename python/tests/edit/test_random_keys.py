@@ -1,6 +1,7 @@
 """Random keys at three desks, whose folders are brought together by someone who copies at random moments and lengths."""
 
 import random
+import re
 import shutil
 from pathlib import Path
 
@@ -18,7 +19,7 @@ WORDS = ["\n", "\t", "tea", "milk ", "שלום", "חלב ", "شاي", "حليب 
          "\u2069", "ש\u05b8", "👩\u200d👧"]  # fmt: skip
 MOVES = ["left", "right", "up", "down", "home", "end", "ctrl-left", "ctrl-right", "page-up", "page-down", "ctrl-home",
          "ctrl-end"]  # fmt: skip
-EDITS = ["backspace", "delete", "ctrl-z"]
+EDITS = ["backspace", "delete", "ctrl-z", "ctrl-y", "ctrl-c", "ctrl-f"]
 
 
 def drawn_key(chance: random.Random) -> Key:
@@ -32,7 +33,8 @@ def drawn_key(chance: random.Random) -> Key:
         return Key("shift-" + chance.choice(MOVES[:8]))
     if kind < 0.98:
         return Key(chance.choice(EDITS))
-    return chance.choice([Key("text", "".join(chance.choices(WORDS, k=30))), Key("f2"), Key("escape"), Key("mark")])
+    return chance.choice([Key("text", "".join(chance.choices(WORDS, k=30))), Key("f2"), Key("escape"), Key("mark"),
+                          Key("ctrl-x"), Key("ctrl-v")])
 
 
 def deliver(chance: random.Random, source: Path, target: Path, whole: bool) -> None:
@@ -81,7 +83,7 @@ def test_random_keys_at_three_desks(tmp_path: Path, seed: int) -> None:
                     deliver(chance, source, target, whole=True)
     for desk in desks:
         look(desk)
-        assert desk.notice == "" or "take back" in desk.notice
+        assert desk.notice == "" or re.fullmatch("nothing (to take back|to do again|is copied)|[0-9,]+ characters? copied", desk.notice)
     text = desks[0].document.text
     assert text == text_of([Path(desk.log.path) for desk in desks])
     for width in (12, 40):

@@ -68,6 +68,59 @@ def test_a_paste_is_one_edit(terminal: Terminal) -> None:
     pane.shows("before")
 
 
+def test_what_is_copied_is_in_the_terminal_s_clipboard_as_it_is_read(terminal: Terminal) -> None:
+    pane = terminal.run("dana").started()
+    terminal.tmux("set", "-g", "set-clipboard", "on")
+    pane.type("ab שלום cd")
+    pane.shows("ab םולש cd")
+    pane.press("C-a", "C-c")
+    pane.tells("10 characters copied")
+    until(lambda: terminal.tmux("list-buffers") and terminal.tmux("show-buffer") == "ab שלום cd", pane.screen)
+    pane.press("End", "Enter", "C-v")
+    pane.shows("ab םולש cd", "ab םולש cd")
+    pane.press("C-z", "C-z", "C-y")
+    pane.tells("11 characters")
+
+
+def test_a_word_is_asked_for_in_the_last_line(terminal: Terminal) -> None:
+    pane = terminal.run("dana").started()
+    pane.type("tea, חלב and milk")
+    pane.press("Home", "C-f")
+    pane.type("חלב")
+    pane.tells("find: בלח |")
+    pane.press("Enter")
+    pane.tells("site ")
+    pane.type("שלום")
+    pane.shows("tea, םולש and milk")
+    pane.press("C-f")
+    pane.type("nowhere")
+    pane.tells("find: nowhere (is not there)")
+    pane.press("Escape")
+    pane.tells("site ")
+    pane.leave()
+    assert text_of([pane.log]) == "tea, שלום and milk"
+
+
+def test_the_keys_are_shown_until_one_is_pressed(terminal: Terminal) -> None:
+    pane = terminal.run("dana").started()
+    pane.type("tea")
+    pane.tells("3 characters")
+    pane.press("F1")
+    until(lambda: pane.rows()[0].startswith("arrows,") and any("Ctrl-F: find" in row for row in pane.rows()), pane.screen)
+    pane.type("s")
+    pane.shows("teas")
+    pane.press("F1", "F1")
+    pane.shows("teas")
+
+
+def test_a_name_that_is_no_text_is_shown(terminal: Terminal) -> None:
+    pane = terminal.run("dana", is_started=False)
+    pane.words[3] = "notes\udcff"
+    pane.start()
+    pane.started().press("C-s")
+    pane.tells("is written")
+
+
 def test_a_long_text_is_scrolled_by_place(terminal: Terminal) -> None:
     pane = terminal.run("dana").started()
     height = len(pane.rows())

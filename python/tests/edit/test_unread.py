@@ -129,6 +129,23 @@ def test_what_is_left_is_not_left_again(tmp_path: Path) -> None:
     assert Opened(tmp_path / "notes.bgop").text() == "ab"
 
 
+@pytest.mark.parametrize("typed", [b"", b"te"])
+def test_a_word_that_is_sought_is_never_typed(tmp_path: Path, typed: bytes) -> None:
+    first = Opened(tmp_path / "notes.bgop")
+    first.press(b"tea\x06" + typed)
+    first.unread.put(b"am")
+    first.kill()
+    assert Opened(tmp_path / "notes.bgop").text() == "tea"
+
+
+def test_a_search_that_had_not_begun_begins(tmp_path: Path) -> None:
+    first = Opened(tmp_path / "notes.bgop")
+    first.press(b"tea\x1b[H")
+    first.unread.put(b"\x06ea\ris")
+    first.kill()
+    assert Opened(tmp_path / "notes.bgop").text() == "tis"
+
+
 def test_keys_are_read_while_one_is_busy(tmp_path: Path) -> None:
     first = Opened(tmp_path / "notes.bgop")
     ear, mouth = os.pipe()
