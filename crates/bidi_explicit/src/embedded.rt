@@ -57,7 +57,7 @@ impl Embedded {
         }
     }
 
-    /// Puts what the rules make of a paragraph of this level, 0 or 1, in its place, whose code points have these classes.
+    /// Puts in its place what the rules make of a paragraph of this level, 0 or 1, whose code points have these classes.
     /// After `Memory` it has no sequence, or is as it was.
     /// Cost: O(n), memory where the lists have no room.
     pub fn embed(&mut self, lists: &mut Lists, level: u8, classes: &[Bidi]) -> Result<(), Memory>
