@@ -33,7 +33,7 @@ DRAWN = 0.02  # seconds from one drawing to the next at least, while there is mo
 
 def asked(words: list[str] | None) -> argparse.Namespace:
     """What the command line asks for."""
-    parser = argparse.ArgumentParser("bidigrid-edit", description=__doc__)
+    parser = argparse.ArgumentParser("bidigrid-edit", description=__doc__, epilog="F1 shows the keys, Ctrl-Q leaves.")
     parser.add_argument("text", help="the text's name: its log is TEXT.bgop, its plain text TEXT.txt")
     way = parser.add_mutually_exclusive_group()
     way.add_argument("--folder", metavar="PATH", help="write it with others over a shared or synchronised folder")
