@@ -50,10 +50,14 @@ def others(editor: Editor, rows: tuple[Row, ...]) -> list[tuple[int, int, int]]:
 
 
 def status(editor: Editor) -> str:
-    """The site, the connection, how long the text is, how it is laid out, who else is here, and what is to be reported; or what
-    is asked for."""
-    if editor.is_seeking:
-        return editor.asked()
+    """What is to be reported, and what there is to know of text and desk; or what is asked for."""
+    desk = editor.desk
+    line = editor.asked() if editor.is_seeking else about(editor)
+    return f"{desk.notice} | {line}" if desk.notice else line
+
+
+def about(editor: Editor) -> str:
+    """The site, the connection, how long the text is, who else is here, and how it is laid out."""
     desk = editor.desk
     here = [f"{here.name or '?'} ({site})" for site, here in sorted(desk.here().items())]
     parts = [f"site {desk.site}", desk.state(), f"{len(editor.document):,} characters"]
@@ -61,5 +65,4 @@ def status(editor: Editor) -> str:
         more = f" and {len(here) - NAMED} more" if len(here) > NAMED else ""
         parts.append(f"with {', '.join(here[:NAMED])}{more}")
     parts += [f"F2 {editor.document.base}", f"F3 {'wide' if desk.wide_ambiguous else 'narrow'}", "F1 keys"]
-    line = " | ".join(parts)
-    return f"{desk.notice} | {line}" if desk.notice else line
+    return " | ".join(parts)

@@ -220,6 +220,12 @@ def test_a_word_is_found_while_it_is_typed(pair: Pair) -> None:
     assert pair.text().replace("|", "") == "tea, cake, tea and team" and view_of(pair.editor).status.startswith("find: milk (")
 
 
+def test_what_is_reported_is_seen_while_a_word_is_asked_for(pair: Pair) -> None:
+    pair.press("ctrl-f", "'tea'")
+    pair.desk.notice = "the log is not written"
+    assert view_of(pair.editor).status.startswith("the log is not written | find: tea (is not there) | ")
+
+
 def test_what_comes_with_the_end_of_a_word_is_typed(pair: Pair) -> None:
     pair.press("'tea milk'", "ctrl-home", "ctrl-f", "'milk\ncake'")
     assert pair.text() == "tea cake|"
