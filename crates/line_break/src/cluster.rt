@@ -13,7 +13,7 @@ use unicode_tables::{Tables, Word};
 
 /// What lines ask of a cluster: its columns, 0 to 2, whether it has only spaces, and the status of
 /// the boundary after it.
-#[derive(Clone, Copy, Debug, PartialEq, Eq, Hash)]
+#[derive(Clone, Copy)]
 pub struct Cluster {
     pub columns: u8,
     pub is_space: bool,

@@ -18,7 +18,7 @@ use unicode_tables::Tables;
 
 /// A line: the numbers of its first cluster and of the one after its last, counted in the
 /// paragraph from 0.
-#[derive(Clone, Copy, Debug, PartialEq, Eq, Hash)]
+#[derive(Clone, Copy, Debug, PartialEq, Eq)]
 pub struct Line {
     pub start: usize,
     pub end: usize,

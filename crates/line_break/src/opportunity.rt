@@ -8,7 +8,7 @@ use crate::status::{Break, is_break, is_must};
 use bg_types::Memory;
 
 /// A boundary between the clusters of a paragraph, by what stands before it.
-#[derive(Clone, Copy, Debug, PartialEq, Eq, Hash)]
+#[derive(Clone, Copy)]
 pub struct Boundary {
     /// How many clusters.
     pub clusters: u32,
@@ -19,7 +19,7 @@ pub struct Boundary {
 }
 
 /// A boundary at which a line may end.
-#[derive(Clone, Copy, Debug, PartialEq, Eq, Hash)]
+#[derive(Clone, Copy)]
 pub struct Opportunity {
     pub boundary: Boundary,
     /// Whether a line must end there.

@@ -22,7 +22,7 @@ use std::alloc::Global;
 use unicode_tables::{Tables, Word};
 
 /// The clusters of a paragraph, in order, and the boundaries between them at which a line may end.
-#[derive(Debug, Drop)]
+#[derive(Drop)]
 pub struct Outline {
     /// Those of one shape, as far as they follow each other.
     pub runs: Vec<ShapeRun>,

@@ -7,7 +7,7 @@ use paragraphs::Span;
 
 /// Clusters of a paragraph that follow each other, at least one, and have one shape: as many bytes, code points and columns
 /// each.
-#[derive(Clone, Copy, Debug, PartialEq, Eq, Hash)]
+#[derive(Clone, Copy)]
 pub struct ShapeRun {
     /// Where the first one begins, counted from the paragraph's start.
     pub first_byte: u32,

@@ -13,7 +13,7 @@ use std::mem;
 use unicode_tables::{Tables, Word};
 
 /// What the boundary after a code point means for a line (UAX #14, LD).
-#[derive(Clone, Copy, Debug, PartialEq, Eq, Hash)]
+#[derive(Clone, Copy, Debug, PartialEq, Eq)]
 pub enum Break {
     /// A line must end there.
     Must,

@@ -2,7 +2,7 @@
 
 /// Where a cluster stands: from its first byte and its first place up to those after it. Bytes
 /// count bytes, and places count code points.
-#[derive(Clone, Copy, Debug, PartialEq, Eq, Hash)]
+#[derive(Clone, Copy, Debug, PartialEq, Eq)]
 pub struct Span {
     pub first_byte: u32,
     pub end_byte: u32,

@@ -13,7 +13,7 @@ use crate::property::Property;
 use bg_types::{Bidi, Ea, Lb};
 
 /// What the tables say of a code point, but for the characters that it pairs with and mirrors to.
-#[derive(Clone, Copy, Debug, PartialEq, Eq, Hash)]
+#[derive(Clone, Copy, Debug, PartialEq, Eq)]
 pub struct Word {
     /// Bidi_Class.
     pub bidi: Bidi,
