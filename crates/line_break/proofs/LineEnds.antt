@@ -10,7 +10,7 @@ use Rattle.line_break.specs.declared.status.Break.{Break}
 use Rattle.line_break.specs.declared.status.Break.TheVariants.{Must, May, No}
 use Rattle.line_break.specs.Lines.{columns, fits, is_must, is_break, status_at, is_in_reach, is_opportunity, greatest, line_len}
 use Rattle.line_break.proofs.Greatest.{greatest-none, greatest-is}
-use Rattle.line_break.proofs.Tails.{solid, solid-append, solid-grows, columns-append}
+use Rattle.line_break.proofs.Tails.{solid, solid-append, solid-grows}
 use Rattle.bg_types.proofs.Interface.{two_cases}
 
 take-add : (cl : List Cluster) (s e : ℕ) → take (s + e) cl ≡ take s cl ++ take e (drop s cl)
@@ -62,12 +62,6 @@ module _ (cl : List Cluster) (w : ℕ) where
   solid-monotone a b le =
       let k : b ≡ a + (b - a) = omega arith in
       subst (λ (t : List Cluster). solid (take a cl) ≤ solid t) (sym (ap (λ n. take n cl) k ∙ take-add cl a (b - a))) (solid-grows (take a cl) (take (b - a) (drop a cl)))
-
-  pub columns-monotone : (a b : ℕ) → a ≤ b → columns (take a cl) ≤ columns (take b cl)
-  columns-monotone a b le =
-      let k : b ≡ a + (b - a) = omega arith in
-      let e = ap columns (ap (λ n. take n cl) k ∙ take-add cl a (b - a)) ∙ columns-append (take a cl) (take (b - a) (drop a cl)) in
-      omega arith
 
   module _ (s : ℕ) where
     reach-true : (e : ℕ) → solid (take (s + e) cl) ≤ columns (take s cl) + w

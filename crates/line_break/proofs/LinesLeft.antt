@@ -63,13 +63,6 @@ module _ (cl : List Cluster) (w : ℕ) where
   unfolding lines_left lines_from
   lines_left-end s h = ap (λ xs. lines_from (length xs) w s xs) (drop_of_length-le cl h)
 
-length-lines_from : (w n s : ℕ) (xs : List Cluster) → length (lines_from n w s xs) ≤ n
-unfolding lines_from
-length-lines_from w zero s xs = omega arith
-length-lines_from w (suc n) s [] = omega arith
-length-lines_from w (suc n) s (c ∷ xs) =
-    let later = length-lines_from w n (s + line_len w (c ∷ xs)) (drop (line_len w (c ∷ xs)) (c ∷ xs)) in omega arith
-
 module _ (w : ℕ) where
   pub lines_of-nil : (cl : List Cluster) → length cl ≡ 0 → lines_of w cl ≡ record { start = 0; end = 0 } ∷ []
   unfolding lines_of
@@ -80,11 +73,6 @@ module _ (w : ℕ) where
   unfolding lines_of lines_left
   lines_of-left [] some = absurd (omega arith)
   lines_of-left (c ∷ cl) some = refl
-
-  pub length-lines_of : (cl : List Cluster) → 0 < length cl → length (lines_of w cl) ≤ length cl
-  unfolding lines_of
-  length-lines_of [] some = absurd (omega arith)
-  length-lines_of (c ∷ cl) some = length-lines_from w (length (c ∷ cl)) 0 (c ∷ cl)
 
 pub some_from_test : (n : ℕ) → false ≡ (n == 0) → 0 < n
 some_from_test n e = elim (eqb_tells n 0) [

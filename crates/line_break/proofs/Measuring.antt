@@ -1,9 +1,9 @@
 -- The clusters of a paragraph, measured up to one of them.
 use Rattle.std.proofs.Common.{◌≡◌, ℕ, zero, suc, ◌+◌, ◌-◌, ◌<◌, ◌≤◌, Bool, true, false, cond, List, [], ◌∷◌, ◌++◌, map, length, take, drop, get_or, sum, refl, sym, ap, subst, ◌∙◌, arith}
-use Rattle.std.proofs.lemmas.List.{append-nil, append_assoc, length-append, length-map, drop-drop, get_or-drop, take_at}
+use Rattle.std.proofs.lemmas.List.{append-nil, append_assoc, length-map, drop-drop, get_or-drop, take_at}
 use Rattle.std.proofs.lemmas.List.Elements.{All-nil, All-cons, All-head, All-tail, All-take}
 use Rattle.std.proofs.lemmas.List.Sums.{sum_by-cons}
-use Rattle.std.specs.List.{All, concat, list_all, list_any}
+use Rattle.std.specs.List.{All, list_all, list_any}
 use Rattle.std.specs.Str.{IsUtf8}
 use Rattle.unicode_tables.specs.Tables.{TableValues}
 use Rattle.paragraphs.specs.Text.{code_points}
@@ -41,17 +41,6 @@ module _ (tables : TableValues) (text : List ℕ) where
       } in
       subst (λ (l : List (List ℕ)). IsMeasuredTo tables text l done 0) (sym all)
       (subst (λ (d : List Cluster). IsMeasuredTo tables text (clusters text) d 0) (sym none) start)
-
-  no_clusters : (left : List (List ℕ)) → concat left ≡ text → All (λ cluster. 0 < length cluster) left → length text ≡ 0 → left ≡ []
-  no_clusters [] all some none = refl
-  no_clusters (c ∷ left) all some none =
-      absurd (let n = ap length all in let first = All-head (λ (x : List ℕ). 0 < length x) c left some in
-      let both = length-append c (concat left) in omega arith)
-
-  -- an empty text has no clusters
-  pub line_clusters-nil : concat (clusters text) ≡ text → All (λ cluster. 0 < length cluster) (clusters text) → length text ≡ 0 → [] ≡ line_clusters tables text
-  unfolding line_clusters
-  line_clusters-nil joined some none = ap (λ l. measured_all tables (map code_points l) (breaks tables text)) (sym (no_clusters (clusters text) joined some none))
 
   module _ (left : List (List ℕ)) (done : List Cluster) (place : ℕ) (m : IsMeasuredTo tables text left done place) where
     -- all clusters are measured

@@ -1,5 +1,5 @@
 -- The clusters of a paragraph, outlined up to one of them.
-use Rattle.std.proofs.Common.{◌≡◌, ℕ, ◌+◌, ◌-◌, ◌<◌, ◌≤◌, List, [], ◌∷◌, ◌++◌, map, length, drop, sym, ap, subst, ◌∙◌, arith, append-nil, append_assoc, length-append}
+use Rattle.std.proofs.Common.{◌≡◌, ℕ, ◌+◌, ◌<◌, ◌≤◌, List, [], ◌∷◌, ◌++◌, map, length, drop, sym, ap, subst, ◌∙◌, arith, append-nil, append_assoc, length-append}
 use Rattle.std.proofs.lemmas.List.{drop-drop, drop_at}
 use Rattle.std.proofs.lemmas.List.Elements.{All-head, All-tail}
 use Rattle.std.proofs.lemmas.Str.{IsUtf8-nil, IsUtf8-append, chars-append}
@@ -46,9 +46,6 @@ module _ (text : List ℕ) where
       pub cluster-utf8 : IsUtf8 c
       cluster-utf8 = All-head IsUtf8 c later at_cluster.utf8
 
-      pub cluster-some : 0 < length c
-      cluster-some = All-head (λ (x : List ℕ). 0 < length x) c later at_cluster.some
-
       pub cluster-fits : byte + length c ≤ length text
       cluster-fits = let all = at_cluster.bytes in let n = length-append c (concat later) in omega arith
 
@@ -76,10 +73,6 @@ module _ (text : List ℕ) where
             ∙ ap (drop size) (at_cluster.points ∙ chars-append c (concat later) cluster-utf8)
             ∙ drop_at (code_points c) (code_points (concat later)) size (sym count);
       }
-
-      -- the cluster ends where those after it begin
-      pub cluster-end : (whole behind : ℕ) → whole ≡ length text → behind ≡ length (concat later) → whole - behind ≡ byte + length c
-      cluster-end whole behind a b = let all = at_cluster.bytes in let n = length-append c (concat later) in omega arith
 
       pub IsOutlinedTo-at : (new : Span) (size end : ℕ) (done' : List Span) (sizes' : List ℕ) → size ≡ length (code_points c) → end ≡ byte + length c
           → new ≡ record { first_byte = byte; end_byte = end; first_place = place; end_place = place + size }

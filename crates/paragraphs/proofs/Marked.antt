@@ -16,7 +16,7 @@ use Rattle.paragraphs.specs.Clusters.{clusters, is_plain}
 use Rattle.paragraphs.specs.Classes.{is_wide}
 use Rattle.paragraphs.specs.Marked.{is_mark, AreMarked}
 use Rattle.paragraphs.proofs.Joined.{AreMarks, ends-before, clusters-marked}
-use Rattle.paragraphs.proofs.Slices.{byte_of, text-split, IsUtf8-rest, IsCharBoundary-byte_of, length-byte_of, IsCharBoundary-on}
+use Rattle.paragraphs.proofs.Slices.{byte_of, text-split, IsUtf8-rest, IsCharBoundary-byte_of, IsCharBoundary-on}
 
 -- the words of code points, in order
 module _ (points : List ℕ) (words : List Word) (same : map (λ (w : Word). w.is_plain) words ≡ map is_plain points) where
@@ -96,9 +96,6 @@ module _ (text points : List ℕ) (n : ℕ) (u : IsUtf8 text) (all : points ≡ 
       length-append (encode_utf8 (get_or points 0 0)) (encode_utf8_all marks) in
       let count : len_utf8 c + (n - 1) * 2 ≡ length (encode_utf8_all (get_or points 0 0 ∷ marks)) = omega arith in
       count ∙ ap (λ ps. length (encode_utf8_all ps)) (sym front) ∙ ap (λ ps. length (encode_utf8_all (take n ps))) all
-
-  pub marked-within : byte_of (code_points text) n ≤ length text
-  marked-within = let e = length-byte_of text u n in omega arith
 
   -- a text may be cut after them
   IsCharBoundary-marked : (end : ℕ) → end ≡ byte_of (code_points text) n → IsCharBoundary text end

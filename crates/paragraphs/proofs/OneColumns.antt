@@ -45,10 +45,6 @@ sum-by_test n choice false e =
     let none : n + 0 ≡ n = omega arith in
     none ∙ ap (λ (b : Bool). if b then 2 else n) e
 
-pub few-sum : (n : ℕ) (choice wider : Bool) → n < 256 → wider ≡ (n == 1 && choice) → n + from_bool wider < 256
-few-sum n choice true small e = let one = eqb-true n 1 ((and_parts (n == 1) choice (sym e)).0) in omega arith
-few-sum n choice false small e = let none : n + 0 ≡ n = omega arith in omega arith
-
 pub columns-sum : (tables : TableValues) (word : Word) (c : ℕ) (wider : Bool) → word ≡ word_of tables c
     → wider ≡ (tables.wide_ambiguous && (word.columns == 1 && is_ambiguous word.ea)) → word.columns + from_bool wider ≡ columns_of tables (c ∷ [])
 columns-sum tables word c wider same test =

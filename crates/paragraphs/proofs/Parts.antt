@@ -94,9 +94,6 @@ module _ (class : ℕ → Bidi) where
       (λ _. (d ∷ [], later.0, later.1 ∷ later.2, refl)) (λ _. (d ∷ later.0, later.1, later.2, refl)) in
       (first.0, first.1, first.2, ap grown later.3 ∙ first.3)
 
-  front-cut : (c : ℕ) (points : List ℕ) → front ((c ∷ []) ∷ parts class points) ≡ (c ∷ []) ∷ front (parts class points)
-  front-cut c points = let s = parts-some points in ap (λ ps. front ((c ∷ []) ∷ ps)) s.2 ∙ sym (ap (λ ps. (c ∷ []) ∷ front ps) s.2)
-
   -- the paragraphs of a text that is cut: those in front, without the last, empty one, and those behind
   pub parts-append : (a b : List ℕ) → meets_at_cut class a b ≡ true → parts class (a ++ b) ≡ front (parts class a) ++ parts class b
   parts-append [] b h = refl

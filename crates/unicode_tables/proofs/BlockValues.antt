@@ -27,17 +27,6 @@ other-page : {V : Type 0} (paged : List Bool) (pages : List (List V)) (values : 
 other-page paged pages values block page c d ne =
     ap (λ p. cond (get_or paged (c / 256) false) (get_or p (c % 256) d) (get_or values (c / 256) d)) (get_or-set_other pages block (c / 256) page [] ne)
 
--- the page of a block that isn't paged
-pub unused-page : {V : Type 0} (paged : List Bool) (pages : List (List V)) (values : List V) (block : ℕ) (page : List V) (c : ℕ) (d : V) → get_or paged block false ≡ false
-    → value_of paged (set pages block page) values c d ≡ value_of paged pages values c d
-unused-page paged pages values block page c d even =
-    elim (cases_eq (c / 256) block) [
-      | inl at ↦
-          let h = ap (λ n. get_or paged n false) at ∙ even in
-          value-even paged (set pages block page) values c d h ∙ sym (value-even paged pages values c d h)
-      | inr ne ↦ other-page paged pages values block page c d ne
-    ]
-
 -- a page of the block's value
 pub give_page-value : {V : Type 0} (paged : List Bool) (pages : List (List V)) (values : List V) (block : ℕ) (v : V) (page : List V) (c : ℕ) (d : V)
     → block < length paged → block < length pages → block < length values → get_or paged block false ≡ false → v ≡ get_or values block v
@@ -98,16 +87,6 @@ set_whole-value paged paged' pages values values' from to value c d v p =
           (p (c / 256) false ∙ ap (λ b. cond b false (get_or paged (c / 256) false)) off)
           (v (c / 256) d ∙ ap (λ b. cond b value (get_or values (c / 256) d)) off)
           ∙ sym (ap (λ b. cond b value was) (sym inside ∙ off))
-    ]
-
--- where whole blocks get one value, a paged one was paged
-pub set_whole-paged : (paged paged' : List Bool) (from to b : ℕ)
-    → ((k : ℕ) (e : Bool) → get_or paged' k e ≡ cond (leb from k && ltb k to) false (get_or paged k e))
-    → get_or paged' b false ≡ true → get_or paged b false ≡ true
-set_whole-paged paged paged' from to b p h =
-    elim (cases_Bool (leb from b && ltb b to)) [
-      | inl on ↦ absurd (let off = p b false ∙ ap (λ t. cond t false (get_or paged b false)) on in cc)
-      | inr off ↦ sym (p b false ∙ ap (λ t. cond t false (get_or paged b false)) off) ∙ h
     ]
 
 -- where no block is paged

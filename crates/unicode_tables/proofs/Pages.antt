@@ -7,7 +7,7 @@ use Rattle.unicode_tables.specs.declared.word.Word.{Word}
 use Rattle.unicode_tables.specs.declared.word.Properties.{Properties}
 use Rattle.unicode_tables.specs.declared.words.Words.{Words}
 use Rattle.unicode_tables.specs.Word.{absent_word, word_with}
-use Rattle.unicode_tables.specs.Words.{word_in, IsWordTable}
+use Rattle.unicode_tables.specs.Words.{word_in}
 
 -- the words of a run of code points are put behind those before them
 pub run-put : (properties : Properties) (block : ℕ) (page after : List Word) (from end : ℕ) (word : Word)
@@ -91,9 +91,6 @@ word-last properties starts pages n w some =
     let start : get_or starts (n - 1) 0 ≡ get_or starts (n - 1) 0 + 0 = omega arith in
     let first : (n - 1) * 256 + 0 ≡ (n - 1) * 256 = omega arith in
     ap (λ k. get_or pages k absent_word) start ∙ w.words (n - 1) 0 (omega arith) (omega arith) ∙ ap (word_with properties) first
-
-pub first-table : (properties : Properties) (words : Words) (n : ℕ) → AreFirst properties words.starts.items words.pages.items n → n ≡ 4352 → IsWordTable words
-first-table properties words n w all = record { blocks = w.len ∙ all; pages = λ b h. w.within b (omega arith) }
 
 pub first-words : (properties : Properties) (words : Words) (n : ℕ) → AreFirst properties words.starts.items words.pages.items n → n ≡ 4352
     → (c : ℕ) → c < 0x110000 → word_in words c ≡ word_with properties c

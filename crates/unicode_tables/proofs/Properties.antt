@@ -6,7 +6,7 @@ use Rattle.std.proofs.lemmas.Nat.{div-mul-add}
 use Rattle.unicode_tables.specs.declared.blocks.Blocks.{Blocks}
 use Rattle.unicode_tables.specs.Tables.{each_code_point}
 use Rattle.unicode_tables.specs.Blocks.{value_in, is_paged}
-use Rattle.unicode_tables.proofs.CodePoints.{each_below-at, each_below-same}
+use Rattle.unicode_tables.proofs.CodePoints.{each_below-at}
 use Rattle.unicode_tables.proofs.BlockValues.{value-even}
 
 -- the value that is listed
@@ -15,9 +15,6 @@ listed blocks v c d h = each_below-at 0x110000 (λ k. value_in blocks k v) c d h
 
 below-last : (c last most : ℕ) → c < 0x110000 → most ≡ min last 0x10FFFF → leb c most ≡ leb c last
 below-last c last most h is = grind (arith, nat_tests)
-
-none-covered : (first last most c : ℕ) → c < 0x110000 → most ≡ min last 0x10FFFF → most < first → (leb first c && leb c last) ≡ false
-none-covered first last most c h is k = grind (arith, nat_tests)
 
 -- a range is set
 pub listed-set : {V : Type 0} (old new : Blocks V) (v value : V) (first last most : ℕ) → most ≡ min last 0x10FFFF
@@ -28,16 +25,6 @@ listed-set old new v value first last most is set c d h =
     listed new v c d h ∙ set c v h
     ∙ ap (λ b. cond (leb first c && b) value (value_in old c v)) (below-last c last most h is)
     ∙ ap (cond (leb first c && leb c last) value) (sym (listed old v c d h))
-
--- an empty range is set
-pub listed-none : {V : Type 0} (value was : V) (first last most c : ℕ) → c < 0x110000 → most ≡ min last 0x10FFFF → most < first
-    → was ≡ cond (leb first c && leb c last) value was
-listed-none value was first last most c h is k = sym (ap (λ b. cond b value was) (none-covered first last most c h is k))
-
--- the same values are listed
-pub listed-same : {V : Type 0} (old new : Blocks V) (v : V) → ((c : ℕ) (d : V) → value_in new c d ≡ value_in old c d)
-    → each_code_point (λ k. value_in new k v) ≡ each_code_point (λ k. value_in old k v)
-listed-same old new v same = each_below-same 0x110000 _ _ v (λ c h. same c v)
 
 -- a block that isn't paged has one value
 pub listed-even : {V : Type 0} (blocks : Blocks V) (v : V) (block k : ℕ) (d : V) → is_paged blocks block ≡ false → block < 4352 → k < 256

@@ -37,21 +37,10 @@ cond-or : {V : Type 0} (a b : Bool) (v w : V) → cond a v (cond b v w) ≡ cond
 cond-or true b v w = refl
 cond-or false b v w = refl
 
-within-one : (block first last c : ℕ) → (leb (block * 256 + first) c && ltb c (block * 256 + (last + 1))) ≡ (leb (block * 256 + first) c && leb c (block * 256 + last))
-within-one block first last c = grind (arith, nat_tests)
-
 within-more : (front first back last c : ℕ) → front < back → first < 256 → last < 256
     → (leb ((front + 1) * 256) c && ltb c (back * 256) || (leb (back * 256 + 0) c && ltb c (back * 256 + (last + 1)) || (leb (front * 256 + first) c && ltb c (front * 256 + 256))))
     ≡ (leb (front * 256 + first) c && leb c (back * 256 + last))
 within-more front first back last c h f l = grind (arith, nat_tests)
-
--- a range within one block
-pub range-one : {V : Type 0} (first last c : ℕ) (v w : V) → first / 256 ≡ last / 256
-    → cond (leb (first / 256 * 256 + first % 256) c && ltb c (first / 256 * 256 + (last % 256 + 1))) v w ≡ cond (leb first c && leb c last) v w
-range-one first last c v w same =
-    ap (λ b. cond b v w) (within-one (first / 256) (first % 256) (last % 256) c
-    ∙ ap (λ n. leb n c && leb c (first / 256 * 256 + last % 256)) (div-add-mod' first 256)
-    ∙ ap (λ n. leb first c && leb c n) (ap (λ n. n * 256 + last % 256) same ∙ div-add-mod' last 256))
 
 -- a range over two blocks, and those between them
 pub range-more : {V : Type 0} (first last c : ℕ) (v w : V) → first / 256 < last / 256

@@ -90,9 +90,6 @@ module _ (text steps : List ℕ) (end count step : ℕ) (u : IsUtf8 text) (s : A
   boundary-on : IsCharBoundary text (end + step)
   boundary-on = subst (IsCharBoundary text) on (IsCharBoundary-past_char text here.after end here.c (omega arith) left here.is)
 
-  pub passed-within : end + step ≤ length text
-  passed-within = boundary-on.0
-
   count-on : count + 1 ≡ length (chars (take (end + step) text))
   count-on =
       let so_far = p.counted in
