@@ -1,7 +1,7 @@
 //! What the first byte of a character tells of it.
 
 ghost use Rattle.std.specs.Prelude.{◌≡◌, ℕ, ◌+◌, ◌<◌, ◌≤◌};
-ghost use Rattle.unicode_tables.specs.FirstBytes.{separates, is_replaced, AreSteps, AreFirstBytes};
+ghost use Rattle.unicode_tables.specs.FirstBytes.{AreSteps, AreFirstBytes};
 
 use crate::class::{is_segment_separator, is_separator};
 use crate::steps::Steps;
@@ -14,20 +14,6 @@ pub(crate) struct FirstBytes {
     pub(crate) to_separators: Steps,
     /// Over none that is shown by another at an odd level.
     pub(crate) to_replaced: Steps,
-}
-
-/// Whether a character of this word separates paragraphs or segments.
-fn separates(word: Word) -> bool
-    ensures { result ≡ separates word }
-{
-    is_separator(word.bidi) || is_segment_separator(word.bidi)
-}
-
-/// Whether a character of this word may be shown by others at an odd level.
-fn is_replaced(word: Word) -> bool
-    ensures { result ≡ is_replaced word }
-{
-    is_segment_separator(word.bidi) || word.has_mirror
 }
 
 impl FirstBytes {
@@ -49,10 +35,10 @@ impl FirstBytes {
         requires replaced { AreSteps self.old.to_replaced.steps }
         ensures { (word : ℕ → Word) → AreFirstBytes word from self.old → ((c : ℕ) → from ≤ c → c < end → word c ≡ own) → AreFirstBytes word end self.new }
     {
-        if separates(own) {
+        if is_separator(own.bidi) || is_segment_separator(own.bidi) {
             self.to_separators.stop(from, end);
         }
-        if is_replaced(own) {
+        if is_segment_separator(own.bidi) || own.has_mirror {
             self.to_replaced.stop(from, end);
         }
     }
