@@ -3,7 +3,7 @@
 ghost use Rattle.std.specs.Prelude.{◌≡◌, ℕ, ◌<◌, ◌≤◌, Bool, false, length, take, slice_index};
 ghost use Rattle.std.specs.List.{list_any};
 ghost use Rattle.std.specs.Str.{IsCharBoundary, chars};
-ghost use Rattle.unicode_tables.specs.FirstBytes.{first_byte, len_from, AreSteps, StopAt};
+ghost use Rattle.unicode_tables.specs.FirstBytes.{first_byte, AreSteps, StopAt};
 
 use crate::page::fill;
 
@@ -31,19 +31,6 @@ fn first_byte(c: usize) -> usize
     }
 }
 
-/// How many bytes a character has that begins with this one; 0 where none does.
-fn len_from(byte: usize) -> u8
-    ensures { result ≡ len_from byte }
-{
-    match byte {
-        0..=0x7F => 1,
-        0x80..=0xBF => 0,
-        0xC0..=0xDF => 2,
-        0xE0..=0xEF => 3,
-        _ => 4,
-    }
-}
-
 impl Steps {
     /// A step over each character.
     pub(crate) fn over_all() -> Steps
@@ -51,7 +38,13 @@ impl Steps {
     {
         let mut steps = [0; BYTES];
         for byte in 0..BYTES {
-            steps[byte] = len_from(byte);
+            steps[byte] = match byte {
+                0..=0x7F => 1,
+                0x80..=0xBF => 0,
+                0xC0..=0xDF => 2,
+                0xE0..=0xEF => 3,
+                _ => 4,
+            };
         }
         Steps { steps }
     }
