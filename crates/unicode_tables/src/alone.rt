@@ -1,7 +1,7 @@
 //! A character by itself, as a cluster.
 
 ghost use Rattle.std.specs.Prelude.{◌≡◌};
-ghost use Rattle.unicode_tables.specs.Alone.{is_plain, is_direction_mark, is_unseen, columns_alone};
+ghost use Rattle.unicode_tables.specs.Alone.{is_plain, is_direction_mark, columns_alone};
 
 use crate::class::{is_line_end, is_separator, is_wide};
 use bg_types::{Bidi, Ea, Lb};
@@ -33,22 +33,16 @@ pub fn is_direction_mark(c: usize) -> bool
     c == 0x200E || c == 0x200F || c == 0x61C
 }
 
-/// Whether a code point of these classes has no columns.
-fn is_unseen(bidi: Bidi, lb: Lb, c: usize) -> bool
-    ensures { result ≡ is_unseen bidi lb c }
-{
-    is_separator(bidi)
-        || is_line_end(lb)
-        || bidi.is_removed()
-        || bidi.is_isolate_control()
-        || is_direction_mark(c)
-}
-
 /// The columns of a code point of these classes alone, where ambiguous ones are narrow.
 pub(crate) fn columns_alone(bidi: Bidi, lb: Lb, ea: Ea, c: usize) -> u8
     ensures { result ≡ columns_alone bidi lb ea c }
 {
-    if is_unseen(bidi, lb, c) {
+    if is_separator(bidi)
+        || is_line_end(lb)
+        || bidi.is_removed()
+        || bidi.is_isolate_control()
+        || is_direction_mark(c)
+    {
         0
     } else if is_wide(ea) {
         2
