@@ -19,7 +19,7 @@ use Rattle.unicode_tables.specs.Tables.{TableValues, tables_of_lists, bracket_of
 use Rattle.unicode_tables.specs.Classes.{is_space}
 use Rattle.unicode_tables.specs.Alone.{is_plain, is_direction_mark, is_by_properties, columns_alone}
 use Rattle.unicode_tables.specs.Word.{is_bracket, word_of_lists, word_of, word_with}
-use Rattle.unicode_tables.specs.Evenness.{HasClassesOf, HasMarksOf, HasEvenMarks, IsWordIn}
+use Rattle.unicode_tables.specs.Evenness.{HasEvenMarks, IsWordIn}
 use Rattle.unicode_tables.specs.Words.{word_in, HasMarks, tables_of_words}
 use Rattle.unicode_tables.proofs.CodePoints.{each_below-at, each_below-same}
 
@@ -157,18 +157,22 @@ words_even properties block k far h even p q r =
     ∙ ap (word_with properties) (sym first)
 
 module _ (properties : Properties) (word : Word) (block place : ℕ) (known : IsWordIn properties block word) (h : place < 256) where
-  -- the marks of a code point, where those of its block are even
-  pub marks-even : HasEvenMarks properties block → HasMarksOf properties word (block * 256 + place)
-  marks-even even = record {
-    bracket = ap is_bracket (even.brackets place h ∙ sym (even.brackets known.place known.within)) ∙ sym (ap (λ (w : Word). w.is_bracket) known.is);
-    mirror = ap is_some (even.mirrors place h ∙ sym (even.mirrors known.place known.within)) ∙ sym (ap (λ (w : Word). w.has_mirror) known.is);
-  }
+  -- the bracket and the mirror of a code point are as the word says, where those of its block are even
+  pub bracket-even : HasEvenMarks properties block → is_bracket (get_or properties.bracket.now (block * 256 + place) no_bracket) ≡ word.is_bracket
+  bracket-even even = ap is_bracket (even.brackets place h ∙ sym (even.brackets known.place known.within)) ∙ sym (ap (λ (w : Word). w.is_bracket) known.is)
+
+  pub mirror-even : HasEvenMarks properties block → is_some (get_or properties.mirror.now (block * 256 + place) None) ≡ word.has_mirror
+  mirror-even even = ap is_some (even.mirrors place h ∙ sym (even.mirrors known.place known.within)) ∙ sym (ap (λ (w : Word). w.has_mirror) known.is)
 
   -- where the properties tell the same as a word of the block, it is the code point's
-  pub word-beside : is_by_properties block ≡ true → HasClassesOf properties word (block * 256 + place) → HasMarksOf properties word (block * 256 + place)
+  pub word-beside : is_by_properties block ≡ true
+      → get_or properties.bidi.now (block * 256 + place) L ≡ word.bidi → get_or properties.lb.now (block * 256 + place) Xx ≡ word.lb
+      → get_or properties.ea.now (block * 256 + place) N ≡ word.ea
+      → is_bracket (get_or properties.bracket.now (block * 256 + place) no_bracket) ≡ word.is_bracket
+      → is_some (get_or properties.mirror.now (block * 256 + place) None) ≡ word.has_mirror
       → word_with properties (block * 256 + place) ≡ word
-  word-beside far classes marks =
+  word-beside far bidi lb ea bracket mirror =
       words-same properties block place known.place far h known.within
-      (classes.bidi ∙ ap (λ (w : Word). w.bidi) known.is) (classes.lb ∙ ap (λ (w : Word). w.lb) known.is) (classes.ea ∙ ap (λ (w : Word). w.ea) known.is)
-      (marks.bracket ∙ ap (λ (w : Word). w.is_bracket) known.is) (marks.mirror ∙ ap (λ (w : Word). w.has_mirror) known.is)
+      (bidi ∙ ap (λ (w : Word). w.bidi) known.is) (lb ∙ ap (λ (w : Word). w.lb) known.is) (ea ∙ ap (λ (w : Word). w.ea) known.is)
+      (bracket ∙ ap (λ (w : Word). w.is_bracket) known.is) (mirror ∙ ap (λ (w : Word). w.has_mirror) known.is)
       ∙ sym known.is

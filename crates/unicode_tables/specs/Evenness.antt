@@ -1,23 +1,9 @@
 -- Where code points have the properties of others.
-use Rattle.std.specs.Prelude.{◌≡◌, ℕ, ◌+◌, ◌*◌, ◌<◌, None, is_some, slice_index_or}
-use Rattle.bg_types.specs.declared.class.Bidi.TheVariants.{L}
-use Rattle.bg_types.specs.declared.class.Lb.TheVariants.{Xx}
-use Rattle.bg_types.specs.declared.class.Ea.TheVariants.{N}
+use Rattle.std.specs.Prelude.{◌≡◌, ℕ, ◌+◌, ◌*◌, ◌<◌, None, slice_index_or}
 use Rattle.unicode_tables.specs.declared.bracket.Bracket.TheVariants.{None as no_bracket}
 use Rattle.unicode_tables.specs.declared.word.Word.{Word}
 use Rattle.unicode_tables.specs.declared.word.Properties.{Properties}
-use Rattle.unicode_tables.specs.Word.{is_bracket, word_with}
-
--- the classes of c are those of the word
-pub record HasClassesOf (properties : Properties) (word : Word) (c : ℕ) : Type 0 where
-  pub bidi : slice_index_or properties.bidi.now c L ≡ word.bidi
-  pub lb : slice_index_or properties.lb.now c Xx ≡ word.lb
-  pub ea : slice_index_or properties.ea.now c N ≡ word.ea
-
--- c is a bracket and has a mirrored character as the word says
-pub record HasMarksOf (properties : Properties) (word : Word) (c : ℕ) : Type 0 where
-  pub bracket : is_bracket (slice_index_or properties.bracket.now c no_bracket) ≡ word.is_bracket
-  pub mirror : is_some (slice_index_or properties.mirror.now c None) ≡ word.has_mirror
+use Rattle.unicode_tables.specs.Word.{word_with}
 
 -- all code points of the block have the bracket and the mirrored character of its first
 pub record HasEvenMarks (properties : Properties) (block : ℕ) : Type 0 where

@@ -3,7 +3,7 @@
 ghost use Rattle.std.specs.Prelude.{◌≡◌, ℕ, ◌+◌, ◌-◌, ◌*◌, ◌<◌, ◌≤◌, true};
 ghost use Rattle.unicode_tables.specs.Alone.{is_by_properties};
 ghost use Rattle.unicode_tables.specs.Word.{is_bracket, word_with};
-ghost use Rattle.unicode_tables.specs.Evenness.{HasClassesOf, HasMarksOf, HasEvenMarks, IsWordIn};
+ghost use Rattle.unicode_tables.specs.Evenness.{HasEvenMarks, IsWordIn};
 
 use crate::alone::{columns_alone, is_plain};
 use crate::bracket::Bracket;
@@ -91,29 +91,6 @@ impl Properties<'_> {
         }
     }
 
-    /// Whether a code point has the classes that a word says.
-    #[inline]
-    fn has_classes_of(&self, word: Word, block: usize, place: usize) -> bool
-        requires block { block < 4352 }
-        requires place { place < 256 }
-        ensures { result ≡ true → HasClassesOf self.now word (block * 256 + place) }
-    {
-        self.bidi.in_block(block, place) == word.bidi
-            && self.lb.in_block(block, place) == word.lb
-            && self.ea.in_block(block, place) == word.ea
-    }
-
-    /// Whether a code point is a bracket and has a mirrored character as a word says.
-    #[inline]
-    fn has_marks_of(&self, word: Word, block: usize, place: usize) -> bool
-        requires block { block < 4352 }
-        requires place { place < 256 }
-        ensures { result ≡ true → HasMarksOf self.now word (block * 256 + place) }
-    {
-        is_bracket(self.bracket.in_block(block, place)) == word.is_bracket
-            && self.mirror.in_block(block, place).is_some() == word.has_mirror
-    }
-
     /// Whether all code points of a block are known to have one bracket and one mirrored character.
     fn has_even_marks(&self, block: usize) -> bool
         requires { block < 4352 }
@@ -132,8 +109,12 @@ impl Properties<'_> {
         requires marks { even_marks ≡ true → HasEvenMarks self.now block }
         ensures { result ≡ true → word_with self.now (block * 256 + place) ≡ word }
     {
-        self.has_classes_of(word, block, place)
-            && (even_marks || self.has_marks_of(word, block, place))
+        self.bidi.in_block(block, place) == word.bidi
+            && self.lb.in_block(block, place) == word.lb
+            && self.ea.in_block(block, place) == word.ea
+            && (even_marks
+                || is_bracket(self.bracket.in_block(block, place)) == word.is_bracket
+                    && self.mirror.in_block(block, place).is_some() == word.has_mirror)
     }
 
     /// The place in a block up to which all code points from one on are known to have its word.
