@@ -17,7 +17,7 @@ use crate::weak::resolve_weak;
 use bg_types::{Base, Bidi, Memory};
 use bidi_explicit::{Embedded, Kept, Sequence, has_controls, paragraph_level};
 use bracket_pairs::resolve;
-use paragraphs::{Para, code_points_of};
+use paragraphs::{Para, code_points_into};
 use std::alloc::Global;
 use unicode_tables::Tables;
 
@@ -272,7 +272,8 @@ pub fn levels(alloc: Global, tables: &Tables, para: &Para, base: Base) -> Result
     ensures one_each { IfOk result (λ levels. length levels.items ≡ length (code_points para.now.text)) }
     ensures bound { IfOk result (λ levels. All (λ level. level ≤ 126) levels.items) }
 {
-    let points = code_points_of(alloc, para.text())?;
+    let mut points = Vec::new(alloc);
+    code_points_into(&mut points, para.text())?;
     let classes = tables.bidi_of_text(alloc, para.text())?;
     let level = paragraph_level(tables, para, base);
     let mut levels = Vec::new(alloc);

@@ -11,7 +11,7 @@ ghost use Rattle.conformance.specs.declared.tally.Choice.{Choice};
 use crate::tally::Choice;
 use bg_types::{Lb, Memory};
 use line_break::is_one_of;
-use paragraphs::code_points_of;
+use paragraphs::code_points_into;
 use std::alloc::Global;
 use ucd_emoji::is_extended_pictographic;
 use ucd_files::Tables;
@@ -34,7 +34,8 @@ pub fn choice_of(
     ensures explains { IfOk result (λ found. IfSome found (Explains tables.now (code_points text.now) wanted.now came.now)) }
     ensures none { IfOk result (λ found. found ≡ None → (choice : Choice) → Explains tables.now (code_points text.now) wanted.now came.now choice → ⊥) }
 {
-    let points = code_points_of(alloc, text)?;
+    let mut points = Vec::new(alloc);
+    code_points_into(&mut points, text)?;
     if wanted.len() != points.len() || came.len() != points.len() {
         return Ok(None);
     }

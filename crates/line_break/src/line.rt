@@ -12,7 +12,7 @@ use crate::cursor::Cursor;
 use crate::open::Open;
 use crate::outline::{Outline, outline_into};
 use bg_types::Memory;
-use paragraphs::{Para, code_points_of, laws};
+use paragraphs::{Para, code_points_into, laws};
 use std::alloc::Global;
 use unicode_tables::Tables;
 
@@ -36,8 +36,10 @@ pub fn lines(alloc: Global, tables: &Tables, para: &Para, width: u16) -> Result<
     ensures joined { IfOk result (λ v. flat_map (λ line. slice_range (clusters para.now.text) line.start line.end) v.items
         ≡ clusters para.now.text) }
 {
-    let points = code_points_of(alloc, para.text())?;
-    let words = tables.words_of_each(alloc, &points)?;
+    let mut points = Vec::new(alloc);
+    code_points_into(&mut points, para.text())?;
+    let mut words = Vec::new(alloc);
+    tables.words_into(&mut words, &points)?;
     let mut outline = Outline::new(alloc);
     let mut statuses = Vec::new(alloc);
     outline_into(&mut outline, &mut statuses, tables, para, &points, &words)?;

@@ -7,7 +7,7 @@ ghost use Rattle.line_break.specs.Lines.{is_must, is_break};
 
 use crate::state::{State, column_of};
 use bg_types::Memory;
-use paragraphs::{Para, code_points_of};
+use paragraphs::{Para, code_points_into};
 use std::alloc::Global;
 use std::mem;
 use unicode_tables::{Tables, Word};
@@ -45,8 +45,10 @@ pub(crate) fn is_break(status: Break) -> bool
 pub fn opportunities(alloc: Global, tables: &Tables, para: &Para) -> Result<Vec<Break>, Memory>
     ensures { IfOk result (λ v. v.items ≡ breaks tables.now para.now.text) }
 {
-    let points = code_points_of(alloc, para.text())?;
-    let words = tables.words_of_each(alloc, &points)?;
+    let mut points = Vec::new(alloc);
+    code_points_into(&mut points, para.text())?;
+    let mut words = Vec::new(alloc);
+    tables.words_into(&mut words, &points)?;
     let mut after = Vec::new(alloc);
     statuses_into(&mut after, &words)?;
     Ok(after)

@@ -1,10 +1,9 @@
 //! The code points of a text.
 
-ghost use Rattle.std.specs.Prelude.{◌≡◌, IfOk, OnOk};
+ghost use Rattle.std.specs.Prelude.{◌≡◌, OnOk};
 ghost use Rattle.paragraphs.specs.Text.{code_points};
 
 use bg_types::Memory;
-use std::alloc::Global;
 use std::mem;
 
 /// Puts the code points of a text into a list, in place of what it has.
@@ -24,14 +23,4 @@ pub fn code_points_into(points: &mut Vec<char>, text: &str) -> Result<(), Memory
     }
     *points = own;
     Ok(())
-}
-
-/// The code points of a text.
-/// Cost: O(n), 4 bytes of memory a byte of the text.
-pub fn code_points_of(alloc: Global, text: &str) -> Result<Vec<char>, Memory>
-    ensures { IfOk result (λ points. points.items ≡ code_points text.now) }
-{
-    let mut points = Vec::new(alloc);
-    code_points_into(&mut points, text)?;
-    Ok(points)
 }

@@ -123,16 +123,6 @@ impl Tables {
         Ok(())
     }
 
-    /// The word of each of these characters.
-    /// Cost: O(n), 8 bytes of memory a character.
-    pub fn words_of_each(&self, alloc: Global, points: &[char]) -> Result<Vec<Word>, Memory>
-        ensures { IfOk result (λ words. words.items ≡ map (word_of self.now) points.now) }
-    {
-        let mut words = Vec::new(alloc);
-        self.words_into(&mut words, points)?;
-        Ok(words)
-    }
-
     /// Bidi_Class of a character.
     #[inline]
     pub fn bidi(&self, c: char) -> Bidi

@@ -6,6 +6,6 @@ use Rattle.bidi_weak_neutral.proofs.paragraph.levels.Goals as goal
 
 pub levels_into-requires-clause-classes : goal.levels_into-requires-clause-classes
 levels_into-requires-clause-classes c =
-    let points = c.deref.ensures.value ∙ c.in_ok-points.ensures in
+    let points = c.deref.ensures.value ∙ c.in_ok-code_points_into.ensures in
     c.deref-2.ensures.value ∙ c.in_ok-classes.ensures
     ∙ ap (classes_of c.args.tables.now) (c.text-2.ensures ∙ sym c.text.ensures) ∙ ap (map (bidi_of c.args.tables.now)) (sym points)
