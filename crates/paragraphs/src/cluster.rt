@@ -71,7 +71,7 @@ impl<'a> Clusters<'a> {
         if !stands_alone(points, words) {
             return None;
         }
-        self.byte += len_of(c);
+        self.byte += c.len_utf8();
         Some(c)
     }
 
@@ -98,7 +98,7 @@ impl<'a> Clusters<'a> {
     {
         // What is left is a text.
         let _rest = &self.text[self.byte..];
-        let bytes = plain_len(points[0]);
+        let bytes = points[0].len_utf8();
         self.byte += bytes;
         bytes
     }
@@ -121,7 +121,7 @@ impl<'a> Clusters<'a> {
         let _rest = &self.text[self.byte..];
         let c = *points.first()?;
         let size = marked_size(points, words)?;
-        self.byte += plain_len(c) + (size - 1) * MARK_LEN;
+        self.byte += c.len_utf8() + (size - 1) * MARK_LEN;
         Some(size)
     }
 }
@@ -143,44 +143,6 @@ impl<'a> Iterator for Clusters<'a> {
         self.byte = self.text.len() - graphemes.as_str().len();
         Some(cluster)
     }
-}
-
-/// How many bytes a character has.
-#[inline]
-fn len_of(c: char) -> usize
-    ensures { result ≡ len_utf8 c }
-{
-    if c < '\u{800}' {
-        short_len(c)
-    } else {
-        long_len(c)
-    }
-}
-
-/// How many one has behind those of two. They are apart, so that most are told by two tests.
-#[inline(never)]
-fn long_len(c: char) -> usize
-    ensures { result ≡ len_utf8 c }
-{
-    c.len_utf8()
-}
-
-/// How many a character has of those of one and of two.
-#[inline]
-fn short_len(c: char) -> usize
-    requires { c < 0x800 }
-    ensures { result ≡ len_utf8 c }
-{
-    if c < '\u{80}' { 1 } else { 2 }
-}
-
-/// How many a plain character has.
-#[inline]
-fn plain_len(c: char) -> usize
-    requires { is_plain c ≡ true }
-    ensures { result ≡ len_utf8 c }
-{
-    short_len(c)
 }
 
 /// Whether the first of these code points is a cluster where it begins one: both it and the next

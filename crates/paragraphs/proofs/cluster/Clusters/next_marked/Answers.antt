@@ -1,6 +1,6 @@
 -- A plain character with marks, and the clusters after them.
 use Rattle.std.proofs.Common.{◌≡◌, ◌+◌, ◌-◌, ◌*◌, ◌∙◌, drop, get_or, ap, sym, arith}
-use Rattle.paragraphs.specs.Clusters.{clusters, is_plain}
+use Rattle.paragraphs.specs.Clusters.{clusters}
 use Rattle.paragraphs.proofs.Alone.{points-first, points-of_clusters}
 use Rattle.paragraphs.proofs.Marked.{marked-bytes, IsCharBoundary-past_marks, points-marked, clusters-past_marks}
 use Rattle.paragraphs.proofs.Slices.{drop-on}
@@ -9,10 +9,6 @@ use Rattle.paragraphs.proofs.cluster.Clusters.next_marked.Goals as goal
 pub range_from-rest-requires : goal.range_from-rest-requires
 range_from-rest-requires c = λ _. c.self.invariant
 
-pub plain_len-requires : goal.plain_len-requires
-plain_len-requires c =
-    ap is_plain (sym (ap (λ ps. get_or ps 0 0) (points-first c.args.points.now c.in_ok-c.field-0.now c.in_ok-c.ensures.value))) ∙ c.in_ok-size.ensures.marked.plain
-
 pub invariant_of-self : goal.invariant_of-self
 invariant_of-self c =
     let inside = c.self.inside in
@@ -20,8 +16,8 @@ invariant_of-self c =
     let points = c.args.points.now in
     let first : c.in_ok-c.field-0.now ≡ get_or points 0 0 = sym (ap (λ ps. get_or ps 0 0) (points-first points c.in_ok-c.field-0.now c.in_ok-c.ensures.value)) in
     let all = points-of_clusters rest points _ c.range_from-rest.utf8 (sym c.self.view_is ∙ ap clusters (sym c.range_from-rest.ensures.value)) c.requires.points in
-    IsCharBoundary-past_marks inside.text.now inside.byte rest points c.in_ok-size.size c.in_ok-c.field-0.now c.plain_len.result c.self.invariant.0 c.range_from-rest.ensures.value
-    c.range_from-rest.utf8 all c.in_ok-size.ensures.marked first c.plain_len.ensures
+    IsCharBoundary-past_marks inside.text.now inside.byte rest points c.in_ok-size.size c.in_ok-c.field-0.now c.len_utf8.result c.self.invariant.0 c.range_from-rest.ensures.value
+    c.range_from-rest.utf8 all c.in_ok-size.ensures.marked first c.len_utf8.ensures.value
 
 pub overflow_add-self-2 : goal.overflow_add-self-2
 overflow_add-self-2 c =
@@ -31,8 +27,8 @@ overflow_add-self-2 c =
     let first : c.in_ok-c.field-0.now ≡ get_or points 0 0 = sym (ap (λ ps. get_or ps 0 0) (points-first points c.in_ok-c.field-0.now c.in_ok-c.ensures.value)) in
     let all = points-of_clusters rest points _ c.range_from-rest.utf8 (sym c.self.view_is ∙ ap clusters (sym c.range_from-rest.ensures.value)) c.requires.points in
     let within =
-    IsCharBoundary-past_marks inside.text.now inside.byte rest points c.in_ok-size.size c.in_ok-c.field-0.now c.plain_len.result c.self.invariant.0 c.range_from-rest.ensures.value
-    c.range_from-rest.utf8 all c.in_ok-size.ensures.marked first c.plain_len.ensures in
+    IsCharBoundary-past_marks inside.text.now inside.byte rest points c.in_ok-size.size c.in_ok-c.field-0.now c.len_utf8.result c.self.invariant.0 c.range_from-rest.ensures.value
+    c.range_from-rest.utf8 all c.in_ok-size.ensures.marked first c.len_utf8.ensures.value in
     omega (arith, within.0)
 
 pub returns-clause-taken : goal.returns-clause-taken
@@ -47,10 +43,10 @@ returns-clause-taken c =
     let all = points-of_clusters rest points _ u left c.requires.points in
     let m = c.in_ok-size.ensures.marked in
     let first : c.in_ok-c.field-0.now ≡ get_or points 0 0 = sym (ap (λ ps. get_or ps 0 0) (points-first points c.in_ok-c.field-0.now c.in_ok-c.ensures.value)) in
-    let end = c.plain_len.result + (n - 1) * 2 in
+    let end = c.len_utf8.result + (n - 1) * 2 in
     left
     ∙ clusters-past_marks rest points n u all m end (drop (inside.byte + end) inside.text.now)
-    (ap (λ l. l + (n - 1) * 2) c.plain_len.ensures ∙ marked-bytes rest points n u all m c.in_ok-c.field-0.now first)
+    (ap (λ l. l + (n - 1) * 2) c.len_utf8.ensures.value ∙ marked-bytes rest points n u all m c.in_ok-c.field-0.now first)
     (drop-on inside.text.now inside.byte rest end value)
 
 pub returns-clause-points : goal.returns-clause-points
