@@ -1,5 +1,5 @@
 -- The first character of a text whose code points are known.
-use Rattle.std.proofs.Common.{◌≡◌, ℕ, ◌+◌, ◌≤◌, length, true, Some, List, [], ◌∷◌, ◌++◌, take, drop, sym, ap, ap₂, subst, ◌∙◌}
+use Rattle.std.proofs.Common.{◌≡◌, ℕ, ◌+◌, ◌<◌, ◌≤◌, length, true, Some, List, [], ◌∷◌, ◌++◌, take, drop, sym, ap, ap₂, subst, ◌∙◌, arith}
 use Rattle.std.proofs.lemmas.List.{append-nil, drop_at}
 use Rattle.std.proofs.lemmas.Str.{chars_past_char, encodes-chars, length-encode, IsUtf8-past_char, IsCharBoundary-at_seam}
 use Rattle.std.specs.Char.{len_utf8}
@@ -21,6 +21,10 @@ points-of_clusters text points left u all e = e ∙ ap code_points (ap concat al
 pub points-first : (points : List ℕ) (c : ℕ) → Some c ≡ slice_get points 0 → points ≡ c ∷ drop 1 points
 points-first [] c first = absurd (cc first)
 points-first (d ∷ points) c first = let same : d ≡ c = cc first in ap (λ x. x ∷ points) same
+
+pub points-some : (points : List ℕ) (c : ℕ) → Some c ≡ slice_get points 0 → 0 < length points
+points-some [] c first = absurd (cc first)
+points-some (d ∷ points) c first = omega arith
 
 module _ (text points : List ℕ) (c : ℕ) (u : IsUtf8 text) (all : points ≡ code_points text) (first : Some c ≡ slice_get points 0) where
   split : text ≡ encode_utf8 c ++ encode_utf8_all (drop 1 points)

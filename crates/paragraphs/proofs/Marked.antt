@@ -1,5 +1,5 @@
 -- A text that begins with a plain character and marks.
-use Rattle.std.proofs.Common.{◌≡◌, ℕ, zero, suc, ◌+◌, ◌-◌, ◌*◌, ◌<◌, ◌≤◌, Bool, true, false, ◌||◌, Option, Some, None, IfSome, List, [], ◌∷◌, ◌++◌, map, length, take, drop, get_or, refl, sym, ap, ap₂, subst, ◌∙◌, inl, inr, arith}
+use Rattle.std.proofs.Common.{◌≡◌, ℕ, zero, suc, ◌+◌, ◌-◌, ◌*◌, ◌<◌, ◌≤◌, Bool, true, false, ◌||◌, List, [], ◌∷◌, ◌++◌, map, length, take, drop, get_or, refl, sym, ap, ap₂, subst, ◌∙◌, inl, inr, arith}
 use Rattle.std.proofs.lemmas.Bool.{cases_lt}
 use Rattle.std.proofs.lemmas.Bool.Decides.{nat_tests}
 use Rattle.std.proofs.lemmas.List.Folds.{list_any_more}
@@ -37,6 +37,12 @@ module _ (points : List ℕ) (words : List Word) (same : map (λ (w : Word). w.i
         | inr ge ↦ absurd (seen (omega arith))
       ]
 
+  -- it is plain, and marks follow it
+  pub marked-from : (n : ℕ) (d : Word) → 0 < length points → (get_or words 0 d).is_plain ≡ true → 0 < n → n ≤ length points
+      → ((k : ℕ) → 0 < k → k < n → is_mark (get_or points k 0) ≡ true) → (n < length points → is_plain (get_or points n 0) ≡ true) → AreMarked points n
+  marked-from n d here plain some within marks behind =
+      record { some = some; within = within; plain = sym (word-plain 0 d here) ∙ plain; marks = marks; behind = behind }
+
 -- one more that isn't wide
 pub narrow-on : (words : List Word) (k : ℕ) (d : Word) → 0 < k → k < length words → list_any (λ (w : Word). is_wide w.ea) (take (k - 1) (drop 1 words)) ≡ false
     → is_wide (get_or words k d).ea ≡ false → list_any (λ (w : Word). is_wide w.ea) (take (k + 1 - 1) (drop 1 words)) ≡ false
@@ -47,18 +53,6 @@ narrow-on words k d some within narrow here =
     ap (λ n. list_any p (take n (drop 1 words))) more
     ∙ list_any_more p (drop 1 words) (k - 1) d (omega (arith, length-drop 1 words))
     ∙ ap₂ ◌||◌ narrow (ap p (get_or-drop 1 words (k - 1) d ∙ ap (λ n. get_or words n d) at) ∙ here)
-
--- what is told of a place, if there is one
-pub marked-from : (points : List ℕ) (place : Option ℕ) → is_plain (get_or points 0 0) ≡ true → IfSome place (λ n. 0 < n) → IfSome place (λ n. n ≤ length points)
-    → IfSome place (λ n. (k : ℕ) → 0 < k → k < n → is_mark (get_or points k 0) ≡ true)
-    → IfSome place (λ n. n < length points → is_plain (get_or points n 0) ≡ true) → IfSome place (λ n. AreMarked points n)
-marked-from points (Some n) plain some within marks behind = record { some = some; within = within; plain = plain; marks = marks; behind = behind }
-marked-from points None plain some within marks behind = some
-
-pub seen-from : (words : List Word) (place : Option ℕ) → 0 < get_or (map (λ (w : Word). w.columns) words) 0 0
-    → IfSome place (λ _. 0 < get_or (map (λ (w : Word). w.columns) words) 0 0)
-seen-from words (Some n) seen = seen
-seen-from words None seen = tt
 
 mark-len : (c : ℕ) → true ≡ is_mark c → len_utf8 c ≡ 2
 mark-len c h = grind (arith, nat_tests)

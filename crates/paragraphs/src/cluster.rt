@@ -3,12 +3,11 @@
 ghost use Rattle.std.specs.Prelude.{◌≡◌, ℕ, ◌-◌, ◌<◌, ◌≤◌, true, false, map, List, [], ◌∷◌, length, slice_index, take, drop, encode_utf8, encode_utf8_all, IfSome, MatchOption};
 ghost use Rattle.std.specs.Char.{len_utf8};
 ghost use Rattle.std.specs.List.{concat, list_any};
-ghost use Rattle.unicode_segmentation.specs.Grapheme.{is_grapheme_break};
 ghost use Rattle.paragraphs.specs.Text.{code_points};
 ghost use Rattle.unicode_tables.specs.declared.word.Word.{Word};
 ghost use Rattle.paragraphs.specs.Clusters.{clusters, is_plain};
 ghost use Rattle.paragraphs.specs.Classes.{is_wide};
-ghost use Rattle.paragraphs.specs.Marked.{is_mark, is_other_mark, AreMarked};
+ghost use Rattle.paragraphs.specs.Marked.{is_mark, is_other_mark};
 
 use std::marker::Model;
 use unicode_segmentation::UnicodeSegmentation;
@@ -68,7 +67,8 @@ impl<'a> Clusters<'a> {
         // What is left is a text.
         let _rest = &self.text[self.byte..];
         let c = *points.first()?;
-        if !stands_alone(points, words) {
+        // A plain character stands alone before a plain one (GB999), and any at the end (GB2).
+        if points.len() > 1 && !(words[0].is_plain && words[1].is_plain) {
             return None;
         }
         self.byte += c.len_utf8();
@@ -120,7 +120,11 @@ impl<'a> Clusters<'a> {
         // What is left is a text.
         let _rest = &self.text[self.byte..];
         let c = *points.first()?;
-        let size = marked_size(points, words)?;
+        if !words[0].is_plain || words[0].columns == 0 {
+            return None;
+        }
+        // Marks belong to it (GB9), and it ends where a plain one follows them (GB999), or nothing (GB2).
+        let size = marks_end(points, words)?;
         self.byte += c.len_utf8() + (size - 1) * MARK_LEN;
         Some(size)
     }
@@ -143,36 +147,6 @@ impl<'a> Iterator for Clusters<'a> {
         self.byte = self.text.len() - graphemes.as_str().len();
         Some(cluster)
     }
-}
-
-/// Whether the first of these code points is a cluster where it begins one: both it and the next
-/// one are plain (GB999), or there is no next one (GB2).
-#[inline]
-fn stands_alone(points: &[char], words: &[Word]) -> bool
-    requires some { 0 < length points.now }
-    requires words { map (λ (w : Word). w.is_plain) words.now ≡ map is_plain points.now }
-    ensures { result ≡ true → is_grapheme_break true (take 1 points.now) (drop 1 points.now) ≡ true }
-{
-    if points.len() < 2 {
-        return true;
-    }
-    words[0].is_plain && words[1].is_plain
-}
-
-/// How many of these code points are a plain one that has columns by itself, and the marks behind
-/// it, none of them wide, where a plain one follows them (GB9, GB999) or nothing (GB2).
-#[inline]
-fn marked_size(points: &[char], words: &[Word]) -> Option<usize>
-    requires some { 0 < length points.now }
-    requires words { map (λ (w : Word). w.is_plain) words.now ≡ map is_plain points.now }
-    ensures marked { IfSome result (λ n. AreMarked points.now n) }
-    ensures seen { IfSome result (λ _. 0 < slice_index (map (λ (w : Word). w.columns) words.now) 0) }
-    ensures narrow { IfSome result (λ n. list_any (λ (w : Word). is_wide w.ea) (take (n - 1) (drop 1 words.now)) ≡ false) }
-{
-    if !words[0].is_plain || words[0].columns == 0 {
-        return None;
-    }
-    marks_end(points, words)
 }
 
 /// The place of the first plain code point behind the first of these, or their end, if there are

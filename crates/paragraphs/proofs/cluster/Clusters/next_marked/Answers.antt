@@ -1,13 +1,20 @@
 -- A plain character with marks, and the clusters after them.
 use Rattle.std.proofs.Common.{◌≡◌, ◌+◌, ◌-◌, ◌*◌, ◌∙◌, drop, get_or, ap, sym, arith}
 use Rattle.paragraphs.specs.Clusters.{clusters}
-use Rattle.paragraphs.proofs.Alone.{points-first, points-of_clusters}
-use Rattle.paragraphs.proofs.Marked.{marked-bytes, IsCharBoundary-past_marks, points-marked, clusters-past_marks}
+use Rattle.paragraphs.proofs.Alone.{points-first, points-some, points-of_clusters}
+use Rattle.paragraphs.proofs.Marked.{words-length, word-seen, marked-from, marked-bytes, IsCharBoundary-past_marks, points-marked, clusters-past_marks}
 use Rattle.paragraphs.proofs.Slices.{drop-on}
 use Rattle.paragraphs.proofs.cluster.Clusters.next_marked.Goals as goal
 
 pub range_from-rest-requires : goal.range_from-rest-requires
 range_from-rest-requires c = λ _. c.self.invariant
+
+pub bounds-words-0 : goal.bounds-words-0
+bounds-words-0 c =
+    omega (arith, words-length c.args.points.now c.args.words.now c.requires.words, points-some c.args.points.now c.in_ok-c.field-0.now c.in_ok-c.ensures.value)
+
+pub marks_end-requires-clause-some : goal.marks_end-requires-clause-some
+marks_end-requires-clause-some c = points-some c.args.points.now c.in_ok-c.field-0.now c.in_ok-c.ensures.value
 
 pub invariant_of-self : goal.invariant_of-self
 invariant_of-self c =
@@ -16,8 +23,11 @@ invariant_of-self c =
     let points = c.args.points.now in
     let first : c.in_ok-c.field-0.now ≡ get_or points 0 0 = sym (ap (λ ps. get_or ps 0 0) (points-first points c.in_ok-c.field-0.now c.in_ok-c.ensures.value)) in
     let all = points-of_clusters rest points _ c.range_from-rest.utf8 (sym c.self.view_is ∙ ap clusters (sym c.range_from-rest.ensures.value)) c.requires.points in
+    let here = points-some points c.in_ok-c.field-0.now c.in_ok-c.ensures.value in
+    let told = c.in_ok-size.ensures in
+    let m = marked-from points c.args.words.now c.requires.words c.in_ok-size.size _ here c.if-not-words.false told.some told.within told.marks told.behind in
     IsCharBoundary-past_marks inside.text.now inside.byte rest points c.in_ok-size.size c.in_ok-c.field-0.now c.len_utf8.result c.self.invariant.0 c.range_from-rest.ensures.value
-    c.range_from-rest.utf8 all c.in_ok-size.ensures.marked first c.len_utf8.ensures.value
+    c.range_from-rest.utf8 all m first c.len_utf8.ensures.value
 
 pub overflow_add-self-2 : goal.overflow_add-self-2
 overflow_add-self-2 c =
@@ -26,9 +36,12 @@ overflow_add-self-2 c =
     let points = c.args.points.now in
     let first : c.in_ok-c.field-0.now ≡ get_or points 0 0 = sym (ap (λ ps. get_or ps 0 0) (points-first points c.in_ok-c.field-0.now c.in_ok-c.ensures.value)) in
     let all = points-of_clusters rest points _ c.range_from-rest.utf8 (sym c.self.view_is ∙ ap clusters (sym c.range_from-rest.ensures.value)) c.requires.points in
+    let here = points-some points c.in_ok-c.field-0.now c.in_ok-c.ensures.value in
+    let told = c.in_ok-size.ensures in
+    let m = marked-from points c.args.words.now c.requires.words c.in_ok-size.size _ here c.if-not-words.false told.some told.within told.marks told.behind in
     let within =
     IsCharBoundary-past_marks inside.text.now inside.byte rest points c.in_ok-size.size c.in_ok-c.field-0.now c.len_utf8.result c.self.invariant.0 c.range_from-rest.ensures.value
-    c.range_from-rest.utf8 all c.in_ok-size.ensures.marked first c.len_utf8.ensures.value in
+    c.range_from-rest.utf8 all m first c.len_utf8.ensures.value in
     omega (arith, within.0)
 
 pub returns-clause-taken : goal.returns-clause-taken
@@ -41,7 +54,9 @@ returns-clause-taken c =
     let n = c.in_ok-size.size in
     let left = sym c.self.view_is ∙ ap clusters (sym value) in
     let all = points-of_clusters rest points _ u left c.requires.points in
-    let m = c.in_ok-size.ensures.marked in
+    let here = points-some points c.in_ok-c.field-0.now c.in_ok-c.ensures.value in
+    let told = c.in_ok-size.ensures in
+    let m = marked-from points c.args.words.now c.requires.words c.in_ok-size.size _ here c.if-not-words.false told.some told.within told.marks told.behind in
     let first : c.in_ok-c.field-0.now ≡ get_or points 0 0 = sym (ap (λ ps. get_or ps 0 0) (points-first points c.in_ok-c.field-0.now c.in_ok-c.ensures.value)) in
     let end = c.len_utf8.result + (n - 1) * 2 in
     left
@@ -52,5 +67,14 @@ returns-clause-taken c =
 pub returns-clause-points : goal.returns-clause-points
 returns-clause-points c =
     let rest = c.range_from-rest.result.now in
-    points-marked rest c.args.points.now c.in_ok-size.size c.range_from-rest.utf8
-    (points-of_clusters rest c.args.points.now _ c.range_from-rest.utf8 (sym c.self.view_is ∙ ap clusters (sym c.range_from-rest.ensures.value)) c.requires.points) c.in_ok-size.ensures.marked
+    let points = c.args.points.now in
+    let here = points-some points c.in_ok-c.field-0.now c.in_ok-c.ensures.value in
+    let told = c.in_ok-size.ensures in
+    let m = marked-from points c.args.words.now c.requires.words c.in_ok-size.size _ here c.if-not-words.false told.some told.within told.marks told.behind in
+    points-marked rest points c.in_ok-size.size c.range_from-rest.utf8
+    (points-of_clusters rest points _ c.range_from-rest.utf8 (sym c.self.view_is ∙ ap clusters (sym c.range_from-rest.ensures.value)) c.requires.points) m
+
+pub returns-clause-seen : goal.returns-clause-seen
+returns-clause-seen c =
+    let points = c.args.points.now in
+    word-seen points c.args.words.now c.requires.words _ (points-some points c.in_ok-c.field-0.now c.in_ok-c.ensures.value) c.if-words-eq0.false
