@@ -7,7 +7,7 @@ ghost use Rattle.paragraphs.specs.Text.{code_points};
 ghost use Rattle.unicode_tables.specs.declared.word.Word.{Word};
 ghost use Rattle.paragraphs.specs.Clusters.{clusters, is_plain};
 ghost use Rattle.paragraphs.specs.Classes.{is_wide};
-ghost use Rattle.paragraphs.specs.Marked.{is_mark, is_other_mark};
+ghost use Rattle.paragraphs.specs.Marked.{is_mark};
 
 use std::marker::Model;
 use unicode_segmentation::UnicodeSegmentation;
@@ -178,18 +178,11 @@ fn marks_end(points: &[char], words: &[Word]) -> Option<usize>
 fn is_mark(c: usize) -> bool
     ensures { result ≡ is_mark c }
 {
-    matches!(c, 0x591..=0x5BD | 0x64B..=0x65F) || is_other_mark(c)
-}
-
-/// Whether it is one of those that are no points of Hebrew or Arabic that most text has. They are apart, so that most marks
-/// are told by two tests.
-#[inline(never)]
-fn is_other_mark(c: usize) -> bool
-    ensures { result ≡ is_other_mark c }
-{
     matches!(
         c,
-        0x300..=0x36F
+        0x591..=0x5BD
+            | 0x64B..=0x65F
+            | 0x300..=0x36F
             | 0x5BF
             | 0x5C1..=0x5C2
             | 0x5C4..=0x5C5
