@@ -29,6 +29,25 @@ columns-alone : (tables : TableValues) (c : ℕ)
     → columns_of tables (c ∷ []) ≡ (if (word_of tables c).columns == 1 && takes_two_by_choice tables c then 2 else (word_of tables c).columns)
 columns-alone tables c = by_cases (ends_line tables c) (is_invisible tables c) (takes_two tables c) (takes_two_by_choice tables c)
 
+-- the cases in their order, by the first of several code points
+by_first : (ends unseen wide choice : Bool)
+    → ◌≡◌ {A = ℕ} (if ends then 0 else (if unseen then 0 else (if wide then 2 else (if choice then 2 else 1)))) (if ends || unseen then 0 else (if wide || choice then 2 else 1))
+by_first true unseen wide choice = refl
+by_first false true wide choice = refl
+by_first false false true choice = refl
+by_first false false false choice = refl
+
+pub columns-first : (tables : TableValues) (points : List ℕ) (first : ℕ) (none two : Bool) → points ≡ first ∷ drop 1 points
+    → none ≡ (ends_line tables first || list_all (is_invisible tables) points) → two ≡ (list_any (takes_two tables) points || takes_two_by_choice tables first)
+    → (if none then 0 else (if two then 2 else 1)) ≡ columns_of tables points
+columns-first tables points first none two is unseen wide =
+    let same = λ (ps : List ℕ). if ends_line tables first || list_all (is_invisible tables) ps then 0 else (if list_any (takes_two tables) ps || takes_two_by_choice tables first then 2 else 1) in
+    ap (λ b. if b then 0 else (if two then 2 else 1)) unseen
+    ∙ ap (λ b. if ends_line tables first || list_all (is_invisible tables) points then 0 else (if b then 2 else 1)) wide
+    ∙ ap same is
+    ∙ sym (by_first (ends_line tables first) (list_all (is_invisible tables) (first ∷ drop 1 points)) (list_any (takes_two tables) (first ∷ drop 1 points)) (takes_two_by_choice tables first))
+    ∙ sym (ap (columns_of tables) is)
+
 and-swap : (a b c : Bool) → (a && (b && c)) ≡ (b && (a && c))
 and-swap true true c = refl
 and-swap true false c = refl

@@ -1,12 +1,12 @@
 //! The columns of a cluster.
 
 ghost use Rattle.std.specs.Prelude.{◌≡◌, ◌<◌, ◌==◌, ◌&&◌, false, length, map, drop, slice_index, [], ◌∷◌};
-ghost use Rattle.std.specs.List.{list_all, list_any};
+ghost use Rattle.std.specs.List.{list_any};
 ghost use Rattle.unicode_tables.specs.Word.{word_of};
 ghost use Rattle.unicode_tables.specs.declared.word.Word.{Word};
 ghost use Rattle.paragraphs.specs.Text.{code_points};
 ghost use Rattle.paragraphs.specs.Classes.{is_ambiguous, is_wide};
-ghost use Rattle.paragraphs.specs.Columns.{ends_line, begins_with_end, is_invisible, takes_two, takes_two_by_choice, columns_by_choice, columns_of};
+ghost use Rattle.paragraphs.specs.Columns.{ends_line, is_invisible, takes_two_by_choice, columns_of};
 
 use unicode_tables::{
     Tables, Word, is_ambiguous, is_direction_mark, is_line_end, is_separator, is_wide,
@@ -24,7 +24,8 @@ pub fn columns(tables: &Tables, cluster: &str) -> u8
     let mut chars = cluster.chars();
     match chars.next() {
         Some(c) if chars.as_str().is_empty() => columns_of_one(tables, &tables.word(c), c),
-        _ => columns_of_several(tables, cluster),
+        Some(c) => columns_of_several(tables, c, cluster),
+        None => 0,
     }
 }
 
@@ -58,16 +59,17 @@ pub fn columns_of_marked(tables: &Tables, points: &[char], words: &[Word]) -> u8
     columns_of_one(tables, &words[0], points[0])
 }
 
-/// The columns of a cluster of any number of code points.
-fn columns_of_several(tables: &Tables, cluster: &str) -> u8
+/// The columns of a cluster of any number of code points, of which this is the first.
+fn columns_of_several(tables: &Tables, first: char, cluster: &str) -> u8
+    requires { code_points cluster.now ≡ first ∷ drop 1 (code_points cluster.now) }
     ensures { result ≡ columns_of tables.now (code_points cluster.now) }
 {
-    if begins_with_end(tables, cluster) || is_invisible_throughout(tables, cluster) {
+    if ends_line(tables, first) || cluster.chars().all(|c| is_invisible(tables, c)) {
         0
-    } else if has_wide(tables, cluster) {
+    } else if cluster.chars().any(|c| is_wide(tables.ea(c))) || takes_two_by_choice(tables, first) {
         2
     } else {
-        columns_by_choice(tables, cluster)
+        1
     }
 }
 
@@ -79,24 +81,6 @@ fn ends_line(tables: &Tables, c: char) -> bool
     is_separator(tables.bidi(c)) || is_line_end(tables.lb(c))
 }
 
-/// Whether the first character ends a line or a paragraph.
-#[inline]
-fn begins_with_end(tables: &Tables, cluster: &str) -> bool
-    ensures { result ≡ begins_with_end tables.now (code_points cluster.now) }
-{
-    match cluster.chars().next() {
-        Some(c) => ends_line(tables, c),
-        None => false,
-    }
-}
-
-#[inline]
-fn is_invisible_throughout(tables: &Tables, cluster: &str) -> bool
-    ensures { result ≡ list_all (is_invisible tables.now) (code_points cluster.now) }
-{
-    cluster.chars().all(|c| is_invisible(tables, c))
-}
-
 /// Whether X9 removes a character, or it is an isolate control or a mark of direction.
 #[inline]
 fn is_invisible(tables: &Tables, c: char) -> bool
@@ -104,24 +88,6 @@ fn is_invisible(tables: &Tables, c: char) -> bool
 {
     let class = tables.bidi(c);
     class.is_removed() || class.is_isolate_control() || is_direction_mark(c as usize)
-}
-
-#[inline]
-fn has_wide(tables: &Tables, cluster: &str) -> bool
-    ensures { result ≡ list_any (takes_two tables.now) (code_points cluster.now) }
-{
-    cluster.chars().any(|c| is_wide(tables.ea(c)))
-}
-
-/// The columns of a cluster in which something is seen and nothing is wide.
-#[inline]
-fn columns_by_choice(tables: &Tables, cluster: &str) -> u8
-    ensures { result ≡ columns_by_choice tables.now (code_points cluster.now) }
-{
-    match cluster.chars().next() {
-        Some(c) if takes_two_by_choice(tables, c) => 2,
-        _ => 1,
-    }
 }
 
 /// Whether a character is ambiguous, and the tables make such characters wide.
