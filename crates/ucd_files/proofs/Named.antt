@@ -36,8 +36,8 @@ option_map-or f None p = refl
 option_map-or f (Some x) p = refl
 
 -- a name of two tables
-pub named-append : {V : Type 0} (xs ys : List (List ℕ × V)) (name : List ℕ) → named (xs ++ ys) name ≡ option_or (named xs name) (named ys name)
+pub named_append : {V : Type 0} (xs ys : List (List ℕ × V)) (name : List ℕ) → named (xs ++ ys) name ≡ option_or (named xs name) (named ys name)
 unfolding named
-named-append xs ys name =
+named_append xs ys name =
     ap (option_map (λ r. r.1)) (find-append (λ r. bytes_eq r.0 name) xs ys)
     ∙ option_map-or (λ r. r.1) (find (λ r. bytes_eq r.0 name) xs) (find (λ r. bytes_eq r.0 name) ys)

@@ -9,7 +9,7 @@ use crate::code::{code, has_dots, range, scalar};
 use crate::entry::Entry;
 use crate::fault::Cause;
 use crate::line::{comment_of, has_two_fields, next_field, text_of};
-use crate::names::{value_named, value_of};
+use crate::names::value_named;
 use unicode_tables::Bracket;
 
 /// What a code or a range says, with the value of a name.
@@ -49,7 +49,7 @@ pub(crate) fn property_line<V: Copy>(
 }
 
 /// The fields of an `@missing` line.
-#[tactic(auto, unfolding(crate::specs::Fields::missing_fields))]
+#[tactic(auto, using(crate::proofs::Named::named_append), unfolding(crate::specs::Fields::missing_fields))]
 fn missing_fields<V: Copy>(
     names: &[(&[u8], V)],
     long_names: &[(&[u8], V)],
@@ -62,7 +62,8 @@ fn missing_fields<V: Copy>(
     if !has_two_fields(text) || !has_dots(codes) {
         return None;
     }
-    entry(codes, value_of(names, long_names, name)).ok()
+    let value = value_named(names, name).or(value_named(long_names, name));
+    entry(codes, value).ok()
 }
 
 /// The default that the comment of a line of bidi, lb or ea gives.

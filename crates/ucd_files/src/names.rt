@@ -1,6 +1,6 @@
 //! The names of values.
 
-ghost use Rattle.std.specs.Prelude.{◌≡◌, ◌++◌};
+ghost use Rattle.std.specs.Prelude.{◌≡◌};
 ghost use Rattle.ucd_files.specs.Names.{named, name_table};
 
 use bg_types::{Bidi, Ea, Lb};
@@ -143,18 +143,4 @@ pub(crate) fn value_named<V: Copy>(table: &[(&[u8], V)], name: &[u8]) -> Option<
         }
     }
     None
-}
-
-/// The value of a short or of a long name.
-pub(crate) fn value_of<V: Copy>(
-    names: &[(&[u8], V)],
-    long_names: &[(&[u8], V)],
-    name: &[u8],
-) -> Option<V>
-    ensures { result ≡ named (name_table names.now ++ name_table long_names.now) name.now }
-{
-    match value_named(names, name) {
-        Some(value) => Some(value),
-        None => value_named(long_names, name),
-    }
 }
