@@ -2,7 +2,6 @@
 pub mod Arranged
 pub mod Between
 pub mod Blocks
-pub mod InOrder
 pub mod L1
 pub mod Least
 pub mod Left

@@ -1,6 +1,6 @@
 -- The walk along the links of a whole line.
-use Rattle.std.proofs.Common.{ℕ, ◌≡◌, ◌<◌, ◌≤◌, inl, inr, ap, sym, ◌∙◌, subst, List, ◌++◌, length, get_or, take, drop, arith}
-use Rattle.std.proofs.lemmas.List.{take_at}
+use Rattle.std.proofs.Common.{ℕ, ◌≡◌, ◌<◌, ◌≤◌, inl, inr, ap, sym, ◌∙◌, subst, List, [], ◌++◌, length, get_or, take, drop, arith}
+use Rattle.std.proofs.lemmas.List.{nil_from_length, take_at}
 use Rattle.std.specs.List.{range_with_len}
 use Rattle.std.proofs.lemmas.List.FromFn.{length-range_with_len, get_or-range_with_len}
 use Rattle.std.proofs.lemmas.Bool.{cases_lt}
@@ -17,6 +17,9 @@ use Rattle.reorder.proofs.Parts.{IsArranged}
 whole-length : (levels : List ℕ) → length (visual_list levels) ≡ length levels
 whole-length levels =
     length_permutation (range_with_len 0 (length levels)) (visual_list levels) (visual_list-permutes levels) ∙ length-range_with_len 0 (length levels)
+
+pub visual_list-empty : (levels : List ℕ) → length levels ≡ 0 → [] ≡ visual_list levels
+visual_list-empty levels none = sym (nil_from_length (visual_list levels) (whole-length levels ∙ none))
 
 pub walk-line : (levels links : List ℕ) (f l end : ℕ) → end ≡ length levels →
     IsArranged levels links f l 0 end → walk (length levels) links f ≡ visual_list levels

@@ -1,8 +1,8 @@
 //! The visual order of a line: L2.
 
 ghost use Rattle.std.specs.Prelude.{◌≡◌, ℕ, ◌<◌, ◌≤◌, length, All, IfOk, OnOk, IsPermutation, slice_index};
-ghost use Rattle.std.specs.List.{list_any, range_with_len};
-ghost use Rattle.reorder.specs.VisualList.{arranged, is_odd, numbers, visual_list};
+ghost use Rattle.std.specs.List.{range_with_len};
+ghost use Rattle.reorder.specs.VisualList.{arranged, numbers, visual_list};
 ghost use Rattle.reorder.specs.Links.{IsLinked, clusters_between};
 
 use crate::links::{Piece, walk_into};
@@ -54,25 +54,6 @@ fn stretch_from(levels: &[u8], links: &mut [u32], start: usize, floor: u8) -> St
     Stretch { piece, end }
 }
 
-/// Whether one of these levels is odd.
-fn has_odd(levels: &[u8]) -> bool
-    ensures { result ≡ list_any is_odd levels.now }
-{
-    levels.iter().any(|level| *level % 2 == 1)
-}
-
-/// Puts the numbers below `count`, the order of a line in which nothing is reversed, into a list, in place of what it has.
-fn count_into(order: &mut Vec<u32>, count: usize) -> Result<(), Memory>
-    requires { count ≤ CLUSTERS }
-    ensures { OnOk result (order.new.items ≡ range_with_len 0 count) }
-{
-    order.clear();
-    for number in 0..count as u32 {
-        order.push(number)?;
-    }
-    Ok(())
-}
-
 /// Puts the numbers of a line's clusters from left to right, by their levels (UAX #9, L2), into a list, in place of what it
 /// has. `links` is another list to work in, whatever it has.
 /// Cost: O(n), 4 bytes of memory a cluster in each list.
@@ -81,8 +62,9 @@ pub fn visual_into(order: &mut Vec<u32>, links: &mut Vec<u32>, levels: &[u8]) ->
     ensures list { OnOk result (order.new.items ≡ visual_list levels.now) }
     ensures rearrangement { OnOk result (IsPermutation (range_with_len 0 (length levels.now)) order.new.items) }
 {
-    if !has_odd(levels) {
-        return count_into(order, levels.len());
+    if levels.is_empty() {
+        order.clear();
+        return Ok(());
     }
     links.clear();
     links.resize(levels.len(), 0)?;

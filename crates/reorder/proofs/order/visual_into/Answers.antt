@@ -1,23 +1,18 @@
 -- The goals of `visual_into` that are answered by hand.
-use Rattle.std.proofs.Common.{sym, ◌∙◌, subst, length}
+use Rattle.std.proofs.Common.{eqb-true, sym, ◌∙◌, subst, length}
 use Rattle.std.specs.Prelude.{IsPermutation}
 use Rattle.std.specs.List.{range_with_len}
-use Rattle.std.proofs.lemmas.List.Sorted.{IsPermutation-refl}
 use Rattle.std.proofs.lemmas.Result.{on_ok_weaker}
-use Rattle.reorder.proofs.InOrder.{visual_list-even}
 use Rattle.reorder.proofs.Rearranged.{visual_list-permutes}
-use Rattle.reorder.proofs.WholeLine.{walk-now, walk-within}
+use Rattle.reorder.proofs.WholeLine.{visual_list-empty, walk-now, walk-within}
 use Rattle.reorder.proofs.order.visual_into.Goals as goal
 
-pub returns-then-not-has_odd-clause-list : goal.returns-then-not-has_odd-clause-list
-returns-then-not-has_odd-clause-list c =
-    let is = visual_list-even c.args.levels.now (sym c.has_odd.ensures ∙ c.if-not-has_odd.true) in
-    on_ok_weaker c.count_into.result (λ e. e ∙ sym is) c.count_into.ensures
+pub returns-then-is_empty-clause-list : goal.returns-then-is_empty-clause-list
+returns-then-is_empty-clause-list c = c.clear.ensures.items ∙ visual_list-empty c.args.levels.now (eqb-true _ _ (sym c.if-is_empty.ensures))
 
-pub returns-then-not-has_odd-clause-rearrangement : goal.returns-then-not-has_odd-clause-rearrangement
-returns-then-not-has_odd-clause-rearrangement c =
-    let numbers = range_with_len 0 (length c.args.levels.now) in
-    on_ok_weaker c.count_into.result (λ e. subst (IsPermutation numbers) (sym e) (IsPermutation-refl numbers)) c.count_into.ensures
+pub returns-then-is_empty-clause-rearrangement : goal.returns-then-is_empty-clause-rearrangement
+returns-then-is_empty-clause-rearrangement c =
+    subst (IsPermutation (range_with_len 0 (length c.args.levels.now))) (sym (returns-then-is_empty-clause-list c)) (visual_list-permutes c.args.levels.now)
 
 pub walk_into-requires : goal.walk_into-requires
 walk_into-requires c =
