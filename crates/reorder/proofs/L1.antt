@@ -1,11 +1,12 @@
 -- The rows of a line that L1 resets or keeps, from its end, and one step of the walk over its clusters.
-use Rattle.std.proofs.Common.{ℕ, zero, suc, ◌≡◌, ◌+◌, ◌-◌, ◌<◌, ◌≤◌, refl, ap, sym, subst, ◌∙◌, List, [], ◌∷◌, ◌++◌, length, get_or, take, drop, replicate, sum, Bool, true, false, true≢false, arith}
+use Rattle.std.proofs.Common.{ℕ, zero, suc, ◌≡◌, ◌+◌, ◌-◌, ◌<◌, ◌≤◌, refl, ap, sym, subst, ◌∙◌, List, [], ◌∷◌, ◌++◌, length, get_or, take, drop, map, replicate, sum, Bool, true, false, true≢false, arith}
 use Rattle.std.specs.Prelude.{if◌then◌else◌, ◌||◌, ◌&&◌}
 use Rattle.std.specs.List.{All}
-use Rattle.std.proofs.lemmas.List.{drop_more, take_more, drop-drop, get_or-drop, length-take-le, take-append-le, take-take, take_all, drop_all, drop_at, append_assoc, append-nil}
+use Rattle.std.proofs.lemmas.List.{length-map, drop_more, take_more, drop-drop, get_or-drop, length-take-le, take-append-le, take-take, take_all, drop_all, drop_at, append_assoc, append-nil}
 use Rattle.std.proofs.lemmas.List.Sums.{sum_by_more, sum_by-take-le}
 use Rattle.bg_types.specs.declared.class.Bidi.{Bidi}
 use Rattle.bg_types.specs.declared.class.Bidi.TheVariants.{L}
+use Rattle.unicode_tables.specs.Tables.{TableValues, bidi_of}
 use Rattle.reorder.specs.LineLevels.{is_separator, is_run_class, may_be_reset, begins_reset, levels_after_l1, group_firsts}
 
 -- ---- code points, from the last
@@ -140,6 +141,13 @@ pub length-after_l1 : (para : ℕ) (cs : List Bidi) (levels : List ℕ) → leng
 length-after_l1 para [] levels n = refl
 length-after_l1 para (c ∷ cs) [] n = absurd (omega arith)
 length-after_l1 para (c ∷ cs) (l ∷ ls) n = ap suc (length-after_l1 para cs ls (omega arith))
+
+-- one for each code point
+pub length-after_points : (para : ℕ) (tables : TableValues) (points : List ℕ) (cs : List Bidi) (levels after : List ℕ) → cs ≡ map (bidi_of tables) points
+    → length levels ≡ length points → after ≡ levels_after_l1 para cs levels → length after ≡ length points
+length-after_points para tables points cs levels after e n is =
+    let same : length cs ≡ length points = ap length e ∙ length-map points (bidi_of tables) in
+    ap length is ∙ length-after_l1 para cs levels (n ∙ sym same) ∙ same
 
 -- ---- clusters, from the first
 

@@ -4,7 +4,7 @@ ghost use Rattle.std.specs.Prelude.{◌≡◌, ℕ, ◌-◌, ◌<◌, ◌≤◌,
 ghost use Rattle.std.specs.List.{list_any};
 ghost use Rattle.std.specs.Str.{chars};
 ghost use Rattle.bg_types.specs.declared.class.Bidi.TheVariants.{L};
-ghost use Rattle.reorder.specs.LineLevels.{is_separator, may_be_reset, levels_after_l1, group_firsts, line_levels_of};
+ghost use Rattle.reorder.specs.LineLevels.{is_separator, may_be_reset, levels_after_l1, line_levels_of};
 
 use bg_types::{Bidi, Memory};
 use std::alloc::Global;
@@ -128,21 +128,6 @@ pub fn levels_after_l1(
     Ok(())
 }
 
-/// The first level of each group, of these sizes.
-fn group_firsts(alloc: Global, levels: &[u8], sizes: &[u32]) -> Result<Vec<u8>, Memory>
-    requires positive { All (λ size. 0 < size) sizes.now }
-    requires whole { sum sizes.now ≡ length levels.now }
-    ensures { IfOk result (λ firsts. firsts.items ≡ group_firsts sizes.now levels.now) }
-{
-    let mut firsts = Vec::with_capacity(alloc, sizes.len())?;
-    let mut start = 0usize;
-    for size in sizes {
-        firsts.push(levels[start])?;
-        start += *size as usize;
-    }
-    Ok(firsts)
-}
-
 /// A level for each cluster of a line (UAX #9, L1): that of its first code point.
 ///
 /// `levels` has a level for each code point of the line, and `sizes` the number of code points of each cluster.
@@ -163,5 +148,11 @@ pub fn line_levels(
     let classes = tables.bidi_of_text(alloc, line)?;
     let mut after = Vec::new(alloc);
     levels_after_l1(&mut after, &classes, levels, para_level)?;
-    group_firsts(alloc, &after, sizes)
+    let mut firsts = Vec::with_capacity(alloc, sizes.len())?;
+    let mut start = 0usize;
+    for size in sizes {
+        firsts.push(after[start])?;
+        start += *size as usize;
+    }
+    Ok(firsts)
 }
