@@ -4,7 +4,7 @@ ghost use Rattle.std.specs.Prelude.{◌≡◌, ◌+◌, ◌-◌, ◌++◌, ◌^�
 ghost use Rattle.line_break.specs.Opportunities.{before_all, behind, offered};
 
 use crate::cluster::{Cluster, hangs};
-use crate::status::{Break, is_break, is_must};
+use crate::status::Break;
 use bg_types::Memory;
 
 /// A boundary between the clusters of a paragraph, by what stands before it.
@@ -72,11 +72,12 @@ pub(crate) fn offer(
 ) -> Result<(), Memory>
     ensures { OnOk result (opportunities.new.items ≡ opportunities.old.items ++ offered boundary status) }
 {
-    if is_break(status) {
-        opportunities.push(Opportunity {
-            boundary,
-            must: is_must(status),
-        })?;
+    if matches!(status, Break::No) {
+        return Ok(());
     }
+    opportunities.push(Opportunity {
+        boundary,
+        must: matches!(status, Break::Must),
+    })?;
     Ok(())
 }

@@ -3,7 +3,6 @@
 ghost use Rattle.std.specs.Prelude.{◌≡◌, IfOk, OnOk, map};
 ghost use Rattle.line_break.specs.Items.{point_of_word};
 ghost use Rattle.line_break.specs.Statuses.{statuses, breaks};
-ghost use Rattle.line_break.specs.Lines.{is_must, is_break};
 
 use crate::state::{State, column_of};
 use bg_types::Memory;
@@ -21,22 +20,6 @@ pub enum Break {
     May,
     /// No line ends there unless nothing else fits.
     No,
-}
-
-/// Whether a line must end at a boundary of this status.
-#[inline]
-pub(crate) fn is_must(status: Break) -> bool
-    ensures { result ≡ is_must status }
-{
-    matches!(status, Break::Must)
-}
-
-/// Whether a line must or may end at a boundary of this status.
-#[inline]
-pub(crate) fn is_break(status: Break) -> bool
-    ensures { result ≡ is_break status }
-{
-    !matches!(status, Break::No)
 }
 
 /// The status of the boundary after each code point of a paragraph, in order (UAX #14, in the
