@@ -92,17 +92,14 @@ fn column_by_more(word: &Word) -> usize
     }
 }
 
-/// One of two columns, by the width of a character.
+/// One of two columns, by the width of a character: LB30 leaves out wide ones.
+#[tactic(auto, unfolding(crate::specs::Classes::is_east_asian))]
 fn column_by_width(width: Ea, narrow: usize, wide: usize) -> usize
     ensures { result ≡ (if is_east_asian width then wide else narrow) }
 {
-    if is_east_asian(width) { wide } else { narrow }
-}
-
-/// Whether LB30 leaves out a character of this width.
-#[tactic(auto, unfolding(crate::specs::Classes::is_east_asian))]
-fn is_east_asian(width: Ea) -> bool
-    ensures { result ≡ is_east_asian width }
-{
-    matches!(width, Ea::F | Ea::W | Ea::H)
+    if matches!(width, Ea::F | Ea::W | Ea::H) {
+        wide
+    } else {
+        narrow
+    }
 }
