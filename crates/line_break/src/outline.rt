@@ -61,7 +61,15 @@ fn close(runs: &mut Vec<ShapeRun>, run: ShapeRun) -> Result<(), Memory>
     if run.count == 0 {
         return Ok(());
     }
-    runs.push(run.anew())?;
+    // Put together anew: a copy takes along what lies between the fields.
+    runs.push(ShapeRun {
+        first_byte: run.first_byte,
+        first_place: run.first_place,
+        count: run.count,
+        bytes: run.bytes,
+        points: run.points,
+        columns: run.columns,
+    })?;
     Ok(())
 }
 
@@ -87,7 +95,13 @@ pub(crate) fn join(
         return Ok(());
     }
     close(runs, *last)?;
-    last.set(next);
+    // Field by field for the same reason.
+    last.first_byte = next.first_byte;
+    last.first_place = next.first_place;
+    last.count = next.count;
+    last.bytes = next.bytes;
+    last.points = next.points;
+    last.columns = next.columns;
     Ok(())
 }
 

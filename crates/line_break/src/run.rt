@@ -63,34 +63,6 @@ impl ShapeRun {
         self.bytes == next.bytes && self.points == next.points && self.columns == next.columns
     }
 
-    /// The same run, put together anew: a copy takes along what lies between the fields.
-    #[inline]
-    pub(crate) fn anew(self) -> ShapeRun
-        ensures { result ≡ self }
-    {
-        ShapeRun {
-            first_byte: self.first_byte,
-            first_place: self.first_place,
-            count: self.count,
-            bytes: self.bytes,
-            points: self.points,
-            columns: self.columns,
-        }
-    }
-
-    /// Becomes another run, field by field for the same reason.
-    #[inline]
-    pub(crate) fn set(&mut self, run: ShapeRun)
-        ensures { self.new ≡ run }
-    {
-        self.first_byte = run.first_byte;
-        self.first_place = run.first_place;
-        self.count = run.count;
-        self.bytes = run.bytes;
-        self.points = run.points;
-        self.columns = run.columns;
-    }
-
     /// Takes one more cluster.
     #[inline]
     pub(crate) fn lengthen(&mut self)

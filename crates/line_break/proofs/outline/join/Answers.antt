@@ -29,14 +29,11 @@ pub returns-clause-runs : goal.returns-clause-runs
 returns-clause-runs c =
     let last = c.args.last.now in
     let before = c.args.runs.now.items ++ if_some last in
-    subst (λ (r : ShapeRun). AreJoined before c.args.next (c.close.new.runs.items ++ if_some r)) (sym c.set.ensures)
-    (subst (λ (l : List ShapeRun). AreJoined before c.args.next (l ++ if_some c.args.next)) (sym c.in_ok-close.ensures)
-    (AreJoined-push c.args.runs.now.items last c.args.next c.requires.first c.requires.one (sym c.if-goes_on.ensures)))
+    subst (λ (l : List ShapeRun). AreJoined before c.args.next (l ++ if_some c.args.next)) (sym c.in_ok-close.ensures)
+    (AreJoined-push c.args.runs.now.items last c.args.next c.requires.first c.requires.one (sym c.if-goes_on.ensures))
 
 pub returns-clause-some : goal.returns-clause-some
-returns-clause-some c = let same = ap (λ (r : ShapeRun). r.count) c.set.ensures in omega (arith, c.requires.one)
+returns-clause-some c = omega (arith, c.requires.one)
 
 pub returns-clause-end : goal.returns-clause-end
-returns-clause-end c =
-    subst (λ (r : ShapeRun). EndsAt r (c.args.next.first_byte + c.args.next.bytes) (c.args.next.first_place + c.args.next.points)) (sym c.set.ensures)
-    (EndsAt-alone c.args.next c.requires.one c.requires.some)
+returns-clause-end c = EndsAt-alone c.args.next c.requires.one c.requires.some
