@@ -1,15 +1,13 @@
 //! A cluster as lines see it.
 
-ghost use Rattle.std.specs.Prelude.{◌≡◌, false};
-ghost use Rattle.std.specs.List.{list_all};
-ghost use Rattle.unicode_tables.specs.declared.word.Word.{Word};
+ghost use Rattle.std.specs.Prelude.{◌≡◌};
 ghost use Rattle.paragraphs.specs.Text.{code_points};
 ghost use Rattle.line_break.specs.LineClusters.{is_space, hangs};
 
 use crate::class::is_one_of;
 use crate::status::Break;
 use bg_types::Lb;
-use unicode_tables::{Tables, Word};
+use unicode_tables::Tables;
 
 /// What lines ask of a cluster: its columns, 0 to 2, whether it has only spaces, and the status of
 /// the boundary after it.
@@ -26,32 +24,6 @@ pub fn is_space(tables: &Tables, cluster: &str) -> bool
     ensures { result ≡ is_space tables.now (code_points cluster.now) }
 {
     cluster.chars().all(|c| is_one_of(tables.lb(c), &[Lb::Sp]))
-}
-
-/// Whether all of these words are those of spaces. Of most clusters the first isn't.
-#[inline]
-pub(crate) fn are_spaces(words: &[Word]) -> bool
-    ensures { result ≡ list_all (λ (w : Word). w.is_space) words.now }
-{
-    may_be_spaces(words) && have_spaces_alone(words)
-}
-
-#[inline]
-fn have_spaces_alone(words: &[Word]) -> bool
-    ensures { result ≡ list_all (λ (w : Word). w.is_space) words.now }
-{
-    words.iter().all(|word| word.is_space)
-}
-
-/// Whether the first of these words is that of a space, if there is one.
-#[inline]
-fn may_be_spaces(words: &[Word]) -> bool
-    ensures { result ≡ false → list_all (λ (w : Word). w.is_space) words.now ≡ false }
-{
-    match words.first() {
-        Some(word) => word.is_space,
-        None => true,
-    }
 }
 
 /// Whether a cluster hangs where it stands at a line's end.

@@ -7,7 +7,7 @@ ghost use Rattle.unicode_tables.specs.declared.word.Word.{Word};
 ghost use Rattle.paragraphs.specs.Classes.{is_wide};
 ghost use Rattle.paragraphs.specs.Text.{code_points};
 
-use crate::cluster::{are_spaces, is_space};
+use crate::cluster::is_space;
 use paragraphs::{Clusters, columns, columns_of_marked, columns_of_one};
 use unicode_tables::{Tables, Word};
 
@@ -87,7 +87,7 @@ impl Measure {
     {
         self.size = points.len() as u32;
         self.columns = columns_of_marked(tables, points, words);
-        self.is_space = are_spaces(words);
+        self.is_space = words.iter().all(|word| word.is_space);
     }
 
     /// A cluster of any number of characters.
