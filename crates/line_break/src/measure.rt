@@ -1,10 +1,8 @@
 //! What is read of a cluster by itself.
 
-ghost use Rattle.std.specs.Prelude.{◌≡◌, ◌+◌, ◌<◌, ◌^◌, false, List, [], ◌∷◌, length, map, drop, slice_index, encode_utf8, IfSome, MatchOption};
-ghost use Rattle.std.specs.List.{All, concat, list_any};
+ghost use Rattle.std.specs.Prelude.{◌≡◌, ◌+◌, ◌<◌, ◌^◌, [], length, map, IfSome, MatchOption};
+ghost use Rattle.std.specs.List.{All, concat};
 ghost use Rattle.unicode_tables.specs.Word.{word_of};
-ghost use Rattle.unicode_tables.specs.declared.word.Word.{Word};
-ghost use Rattle.paragraphs.specs.Classes.{is_wide};
 ghost use Rattle.paragraphs.specs.Text.{code_points};
 
 use crate::cluster::is_space;
@@ -20,7 +18,7 @@ pub(crate) struct Measure {
 }
 
 impl Measure {
-    ghost use Rattle.line_break.specs.Measures.{measure_of, IsNext};
+    ghost use Rattle.line_break.specs.Measures.{IsNext};
 
     /// That of no cluster, which is to be read.
     pub(crate) fn empty() -> Measure {
@@ -51,53 +49,23 @@ impl Measure {
     {
         let left = clusters.bytes_left();
         if let Some(c) = clusters.next_alone(points, words) {
-            self.read_one(tables, &words[0], c);
+            let word = &words[0];
+            self.size = 1;
+            self.columns = columns_of_one(tables, word, c);
+            self.is_space = word.is_space;
             return Some(left - clusters.bytes_left());
         }
         if let Some(size) = clusters.next_marked(points, words) {
-            self.read_marked(tables, &points[..size], &words[..size]);
+            let own = &words[..size];
+            self.size = size as u32;
+            self.columns = columns_of_marked(tables, &points[..size], own);
+            self.is_space = own.iter().all(|word| word.is_space);
             return Some(left - clusters.bytes_left());
         }
         let cluster = clusters.next()?;
-        self.read_several(tables, cluster);
-        Some(left - clusters.bytes_left())
-    }
-
-    /// A cluster of one character, of which this is the word.
-    #[inline]
-    fn read_one(&mut self, tables: &Tables, word: &Word, c: char)
-        requires { word.now ≡ word_of tables.now c }
-        ensures measured { self.new ≡ measure_of tables.now (c ∷ []) }
-        ensures points { code_points (encode_utf8 c) ≡ c ∷ [] }
-    {
-        self.size = 1;
-        self.columns = columns_of_one(tables, word, c);
-        self.is_space = word.is_space;
-    }
-
-    /// A cluster of these characters, which have these words, where the first has columns by itself
-    /// and none of the others is wide.
-    #[inline]
-    fn read_marked(&mut self, tables: &Tables, points: &[char], words: &[Word])
-        requires few { length points.now < 2 ^ 32 }
-        requires words { words.now ≡ map (word_of tables.now) points.now }
-        requires seen { 0 < slice_index (map (λ (w : Word). w.columns) words.now) 0 }
-        requires narrow { list_any (λ (w : Word). is_wide w.ea) (drop 1 words.now) ≡ false }
-        ensures { self.new ≡ measure_of tables.now points.now }
-    {
-        self.size = points.len() as u32;
-        self.columns = columns_of_marked(tables, points, words);
-        self.is_space = words.iter().all(|word| word.is_space);
-    }
-
-    /// A cluster of any number of characters.
-    fn read_several(&mut self, tables: &Tables, cluster: &str)
-        requires some { 0 < length cluster.now }
-        requires few { length cluster.now < 2 ^ 32 }
-        ensures { self.new ≡ measure_of tables.now (code_points cluster.now) }
-    {
         self.size = cluster.chars().count() as u32;
         self.columns = columns(tables, cluster);
         self.is_space = is_space(tables, cluster);
+        Some(left - clusters.bytes_left())
     }
 }
