@@ -16,9 +16,9 @@ use Rattle.line_break.specs.declared.reached.Reached.{Reached}
 use Rattle.line_break.specs.declared.run.ShapeRun.{ShapeRun}
 use Rattle.line_break.specs.declared.status.Break.{Break}
 use Rattle.line_break.specs.LineClusters.{is_space as is_space_of, measured}
-use Rattle.line_break.specs.Opportunities.{behind, offered}
-use Rattle.line_break.specs.Reached.{IsAt, IsOutlinedTo, IsMeasuredTo, first_lines, none_reached, span_ahead}
-use Rattle.line_break.specs.Runs.{AreJoined, EndsAt, alone, if_some, sizes_of, spans_of}
+use Rattle.line_break.specs.Opportunities.{before_all, behind, offered}
+use Rattle.line_break.specs.Reached.{IsAt, IsOutlinedTo, IsMeasuredTo, first_lines, span_ahead}
+use Rattle.line_break.specs.Runs.{AreJoined, EndsAt, alone, if_some, no_run, sizes_of, spans_of}
 use Rattle.line_break.specs.Statuses.{breaks}
 use Rattle.line_break.proofs.Boundaries.{columns-two}
 use Rattle.line_break.proofs.Gathering.{AreGathered-start, AreGathered-on, sizes-on, spans-on}
@@ -38,14 +38,19 @@ measured-one tables c statuses all place columns is_space d same lt a b =
     measured-is tables (c ∷ []) statuses all place 1 columns is_space (get_or statuses place d) same refl (omega arith) (omega arith) a b
     (same-at statuses place d (get_or statuses place d) (omega arith) ∙ ap (λ k. get_or statuses k (get_or statuses place d)) last)
 
+same_reached : {l l' : ShapeRun} {b b' : Boundary} → l ≡ l' → b ≡ b'
+    → ◌≡◌ {A = Reached} (record { last = l; end = b; byte = 0; place = 0 }) (record { last = l'; end = b'; byte = 0; place = 0 })
+same_reached p q = cc
+
 -- no cluster yet
-pub IsAt-start : (tables : TableValues) (text : List ℕ) (left : List (List ℕ)) (runs : List ShapeRun) (opportunities : List Opportunity) (reached : Reached)
+pub IsAt-start : (tables : TableValues) (text : List ℕ) (left : List (List ℕ)) (runs : List ShapeRun) (opportunities : List Opportunity) (last : ShapeRun) (end : Boundary)
     → left ≡ clusters text → All IsUtf8 left → All (λ (cluster : List ℕ). 0 < length cluster) left → concat left ≡ text
     → All (λ size. 0 < size) (cluster_sizes text) → sum (cluster_sizes text) ≡ length (code_points text)
-    → runs ≡ [] → opportunities ≡ [] → reached ≡ none_reached → IsAt tables text left runs opportunities reached
-IsAt-start tables text left runs opportunities reached all u some joined some_sizes whole no_runs no_offers start =
+    → runs ≡ [] → opportunities ≡ [] → last ≡ no_run → end ≡ before_all
+    → IsAt tables text left runs opportunities (record { last = last; end = end; byte = 0; place = 0 })
+IsAt-start tables text left runs opportunities last end all u some joined some_sizes whole no_runs no_offers no_last no_end =
     let none : runs ++ [] ≡ [] = ap (λ (l : List ShapeRun). l ++ []) no_runs in
-    subst (IsAt tables text left runs opportunities) (sym start) (record {
+    subst (IsAt tables text left runs opportunities) (sym (same_reached no_last no_end)) (record {
       outlined = IsOutlinedTo-start text left _ _ all u some joined (ap (flat_map spans_of) none) (ap (flat_map sizes_of) none);
       measured = IsMeasuredTo-start tables text left [] all u some_sizes whole refl;
       gathered = AreGathered-start _ [] none refl;

@@ -14,13 +14,9 @@ use Rattle.line_break.specs.declared.reached.Reached.{Reached}
 use Rattle.line_break.specs.declared.run.ShapeRun.{ShapeRun}
 use Rattle.line_break.specs.LineClusters.{line_clusters, measured_all}
 use Rattle.line_break.specs.Lines.{is_break, status_at}
-use Rattle.line_break.specs.Opportunities.{before_all, boundary_at, opportunity_at}
-use Rattle.line_break.specs.Runs.{AllHaveSome, EndsAt, are_longest, columns_of, if_some, no_run, sizes_of, spans_of}
+use Rattle.line_break.specs.Opportunities.{boundary_at, opportunity_at}
+use Rattle.line_break.specs.Runs.{AllHaveSome, EndsAt, are_longest, columns_of, if_some, sizes_of, spans_of}
 use Rattle.line_break.specs.Statuses.{breaks}
-
--- before the first cluster
-abbrev pub none_reached : Reached
-none_reached = record { last = no_run; end = before_all; byte = 0; place = 0 }
 
 -- where the next cluster stands, of so many bytes and code points
 abbrev pub span_ahead : Reached → ℕ → ℕ → Span

@@ -1,7 +1,6 @@
 //! Where clusters are read out of the runs.
 
-ghost use Rattle.std.specs.Prelude.{◌≡◌, ◌+◌, ◌^◌, ◌<◌, ◌≤◌, List, length, take, MatchOption};
-ghost use Rattle.line_break.specs.declared.run.ShapeRun.{ShapeRun};
+ghost use Rattle.std.specs.Prelude.{◌≡◌, ◌+◌, ◌^◌, ◌<◌, ◌≤◌, length, take, MatchOption};
 ghost use Rattle.line_break.specs.LineClusters.{line_clusters};
 
 use crate::cluster::{Cluster, is_space};
@@ -19,13 +18,6 @@ pub(crate) struct Cursor {
 
 impl Cursor {
     ghost use Rattle.line_break.specs.Cursors.{AreRunsOf, count_of, IsBefore, IsReadAt};
-
-    /// At the first run.
-    pub(crate) fn start() -> Cursor
-        ensures { (runs : List ShapeRun) → IsBefore runs result 0 }
-    {
-        Cursor { run: 0, first: 0 }
-    }
 
     /// The cluster of this number, if there is one, with any status after it. Those before it are passed.
     /// Cost: O(n) of the runs that are passed and of the cluster.

@@ -10,6 +10,7 @@ ghost use Rattle.line_break.specs.Opportunities.{opportunities_of};
 
 use crate::cursor::Cursor;
 use crate::open::Open;
+use crate::opportunity::Boundary;
 use crate::outline::{Outline, outline_into};
 use bg_types::Memory;
 use paragraphs::{Para, code_points_into, laws};
@@ -71,8 +72,13 @@ pub fn lines_into(
         found.push(Line { start: 0, end: 0 })?;
         return Ok(());
     }
-    let mut open = Open::first();
-    let mut cursor = Cursor::start();
+    let start = Boundary::before_all();
+    let mut open = Open {
+        start,
+        reached: start,
+        next: 0,
+    };
+    let mut cursor = Cursor { run: 0, first: 0 };
     while let Some(line) = open.next_line(&mut cursor, tables, text, outline, width as u32) {
         found.push(line)?;
     }

@@ -20,15 +20,6 @@ pub(crate) struct Measure {
 impl Measure {
     ghost use Rattle.line_break.specs.Measures.{IsNext};
 
-    /// That of no cluster, which is to be read.
-    pub(crate) fn empty() -> Measure {
-        Measure {
-            size: 0,
-            columns: 0,
-            is_space: false,
-        }
-    }
-
     /// Takes the next cluster, if there is one, measures it, and gives how many bytes it has. `points`
     /// are the code points still to come, and `words` are theirs. A measure is read in place: one that is handed out would be
     /// packed into a register and unpacked again.

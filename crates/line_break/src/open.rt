@@ -1,7 +1,6 @@
 //! The open line, while opportunities are read in order.
 
-ghost use Rattle.std.specs.Prelude.{◌≡◌, ℕ, ◌<◌, ◌≤◌, List, ◌∷◌, [], length, MatchOption};
-ghost use Rattle.line_break.specs.declared.cluster.Cluster.{Cluster};
+ghost use Rattle.std.specs.Prelude.{◌≡◌, ◌<◌, ◌≤◌, ◌∷◌, [], length, MatchOption};
 ghost use Rattle.line_break.specs.Cursors.{AreRunsOf, IsBefore};
 ghost use Rattle.line_break.specs.LineClusters.{line_clusters};
 ghost use Rattle.line_break.specs.Open.{IsBoundary, IsLastFitting};
@@ -26,21 +25,7 @@ pub(crate) struct Open {
 }
 
 impl Open {
-    ghost use Rattle.line_break.specs.Opportunities.{opportunities_of};
     ghost use Rattle.line_break.specs.Open.{IsOpen, lines_left};
-
-    /// A paragraph's first line, before its first cluster.
-    pub(crate) fn first() -> Open
-        ensures start { result.start.clusters ≡ 0 }
-        ensures state { (clusters : List Cluster) (width : ℕ) → IsOpen clusters (opportunities_of clusters) width result }
-    {
-        let start = Boundary::before_all();
-        Open {
-            start,
-            reached: start,
-            next: 0,
-        }
-    }
 
     /// Reads opportunities until a line ends, and gives it. Clusters are read only of a line that
     /// doesn't fit up to the first opportunity in it, and of such a line once.

@@ -12,7 +12,7 @@ ghost use Rattle.line_break.specs.Runs.{AllHaveSome, AreJoined, EndsAt, are_long
 
 use crate::cluster::Cluster;
 use crate::measure::Measure;
-use crate::opportunity::Opportunity;
+use crate::opportunity::{Boundary, Opportunity};
 use crate::reached::Reached;
 use crate::run::ShapeRun;
 use crate::status::{Break, statuses_into};
@@ -135,8 +135,17 @@ pub fn outline_into(
     // No paragraph has more clusters than code points.
     outline.begin(points.len())?;
     let mut clusters = para.clusters();
-    let mut reached = Reached::none();
-    let mut measure = Measure::empty();
+    let mut reached = Reached {
+        last: ShapeRun::empty(),
+        end: Boundary::before_all(),
+        byte: 0,
+        place: 0,
+    };
+    let mut measure = Measure {
+        size: 0,
+        columns: 0,
+        is_space: false,
+    };
     while let Some(bytes) = measure.read_next(
         tables,
         &mut clusters,

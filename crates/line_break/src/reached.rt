@@ -6,7 +6,7 @@ ghost use Rattle.unicode_tables.specs.declared.word.Word.{Word};
 ghost use Rattle.paragraphs.specs.Clusters.{is_plain};
 ghost use Rattle.paragraphs.specs.Text.{code_points};
 ghost use Rattle.line_break.specs.Opportunities.{behind, offered};
-ghost use Rattle.line_break.specs.Reached.{IsAt, none_reached, span_ahead};
+ghost use Rattle.line_break.specs.Reached.{IsAt, span_ahead};
 ghost use Rattle.line_break.specs.Runs.{AreJoined, EndsAt, alone, if_some};
 ghost use Rattle.line_break.specs.Statuses.{breaks};
 
@@ -33,18 +33,6 @@ pub(crate) struct Reached {
 }
 
 impl Reached {
-    /// No cluster.
-    pub(crate) fn none() -> Reached
-        ensures { result ≡ none_reached }
-    {
-        Reached {
-            last: ShapeRun::empty(),
-            end: Boundary::before_all(),
-            byte: 0,
-            place: 0,
-        }
-    }
-
     /// Puts the next cluster, of so many bytes and code points, behind those of an outline.
     #[inline]
     pub(crate) fn put(

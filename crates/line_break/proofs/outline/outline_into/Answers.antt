@@ -33,8 +33,8 @@ loop-bytes-init c =
     let text = c.args.para.now.text in
     let given = c.clusters-clusters.ensures in
     let u = subst IsUtf8 given.joined (IsUtf8-concat c.clusters-clusters.result given.utf8) in
-    IsAt-start c.args.tables.now text _ _ _ _ given.clusters given.utf8 given.some given.joined
-    (c.cluster_places.ensures.some text u) (c.cluster_places.ensures.sum text u) c.in_ok-begin.ensures.runs c.in_ok-begin.ensures.opportunities c.none-reached.ensures
+    IsAt-start c.args.tables.now text _ _ _ c.empty.result c.before_all.result given.clusters given.utf8 given.some given.joined
+    (c.cluster_places.ensures.some text u) (c.cluster_places.ensures.sum text u) c.in_ok-begin.ensures.runs c.in_ok-begin.ensures.opportunities c.empty.ensures c.before_all.ensures
 
 pub read_next-requires-clause-some : goal.read_next-requires-clause-some
 read_next-requires-clause-some c = c.loop-bytes.invariant.outlined.some
