@@ -1,7 +1,7 @@
 //! What no clause says: texts under each rule, and calls that succeed.
 
 use crate::first_paragraph::{First, FirstOf, OfParagraph};
-use crate::rows::{Row, assert_rows, assert_rows_by};
+use crate::rows::{assert_rows, assert_rows_by};
 use bg_types::Memory;
 use line_break::*;
 use paragraphs::Para;
@@ -363,6 +363,10 @@ const LINES: &[First<Lines>] = &[
     First("a\u{200D}\u{4E16} b", Lines(3, &[(0, 3), (3, 4)])),
     First("abcd\u{2067}\u{2069} ef", Lines(4, &[(0, 7), (7, 9)])),
     First("ab\u{2067}\u{2069}", Lines(2, &[(0, 4)])),
+    // A space hangs, but neither one with a mark nor a no-break space.
+    First("ab ", Lines(2, &[(0, 3)])),
+    First("ab \u{301}", Lines(2, &[(0, 2), (2, 3)])),
+    First("ab\u{A0}", Lines(2, &[(0, 2), (2, 3)])),
 ];
 
 #[test]
@@ -413,27 +417,6 @@ fn only_spaces_of_class_sp_hang(rt: HostRuntime) {
         wide_ambiguous: false,
     };
     assert_rows_by(&rt, &files, UNHUNG);
-}
-
-/// A cluster, and whether it is a space.
-struct Space(&'static str, bool);
-
-impl Row for Space {
-    fn comes_out(&self, _alloc: Global, tables: &Tables) -> Result<bool, Memory> {
-        Ok(is_space(tables, self.0) == self.1)
-    }
-}
-
-const SPACES: &[Space] = &[
-    Space(" ", true),
-    Space("a", false),
-    Space(" \u{301}", false),
-    Space("\u{A0}", false),
-];
-
-#[test]
-fn spaces_by_their_class(rt: HostRuntime) {
-    assert_rows(&rt, SPACES);
 }
 
 #[test]

@@ -19,8 +19,7 @@ pub struct Cluster {
 }
 
 /// Whether a cluster has only code points of break class SP: a space cluster.
-/// Cost: O(n) of the cluster.
-pub fn is_space(tables: &Tables, cluster: &str) -> bool
+pub(crate) fn is_space(tables: &Tables, cluster: &str) -> bool
     ensures { result ≡ is_space tables.now (code_points cluster.now) }
 {
     cluster.chars().all(|c| is_one_of(tables.lb(c), &[Lb::Sp]))

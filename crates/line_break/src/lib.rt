@@ -18,7 +18,7 @@ mod status;
 mod status_table;
 
 pub use class::is_one_of;
-pub use cluster::{Cluster, is_space};
+pub use cluster::Cluster;
 pub use line::{Line, lines, lines_into};
 pub use opportunity::{Boundary, Opportunity};
 pub use outline::{Outline, outline_into};

@@ -16,4 +16,4 @@ pub mod vectors;
 
 pub use fault::{Cause, UcdFault, UcdFile};
 pub use files::Ucd;
-pub use unicode_tables::{Bracket, Tables, Word};
+pub use unicode_tables::{Bracket, Tables};
