@@ -22,7 +22,7 @@ run_of start end = record { start = start; end = end }
 pub run_places-more : (runs : List LevelRun) (r : LevelRun) → run_places (runs ++ r ∷ []) ≡ run_places runs ++ own_places r
 run_places-more runs r = sym (flat_map_more own_places [] runs r)
 
-pub between-first : (a b : ℕ) → a < b → places_between a b ≡ a ∷ places_between (a + 1) b
+between-first : (a b : ℕ) → a < b → places_between a b ≡ a ∷ places_between (a + 1) b
 between-first a b lt =
     let count : b - a ≡ suc (b - (a + 1)) = omega arith in
     ap (range_with_len a) count

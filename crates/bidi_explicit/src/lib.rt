@@ -23,4 +23,4 @@ pub use level::paragraph_level;
 pub use level_run::LevelRun;
 pub use lists::Lists;
 pub use paragraph::explicit;
-pub use sequence::{Places, Sequence};
+pub use sequence::Sequence;

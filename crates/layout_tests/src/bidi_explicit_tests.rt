@@ -28,8 +28,10 @@ fn tell(told: &mut String, embedded: &Embedded) -> Result<(), AllocError> {
 
 /// Writes a sequence's places, its level, sos and eos.
 fn tell_sequence(told: &mut String, sequence: &Sequence) -> Result<(), AllocError> {
-    for place in sequence.places() {
-        write!(told, " {place}")?;
+    for run in sequence.runs() {
+        for place in run.start..run.end {
+            write!(told, " {place}")?;
+        }
     }
     let (level, sos, eos) = (sequence.level(), sequence.sos(), sequence.eos());
     write!(told, " at {level} {sos:?} {eos:?}")
@@ -223,8 +225,8 @@ struct Isolates;
 /// How many places a sequence has.
 fn count_of(sequence: &Sequence) -> usize {
     let mut count = 0usize;
-    for _place in sequence.places() {
-        count = count.saturating_add(1);
+    for run in sequence.runs() {
+        count = count.saturating_add(run.end.saturating_sub(run.start));
     }
     count
 }
