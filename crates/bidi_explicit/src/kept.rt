@@ -3,7 +3,7 @@
 use bg_types::Bidi;
 
 /// A place that X9 keeps.
-#[derive(Clone, Copy, Debug, PartialEq, Eq)]
+#[derive(Clone, Copy, Debug)]
 pub struct Kept {
     /// Its explicit level, at most 125.
     pub level: u8,

@@ -8,7 +8,7 @@ use crate::kept::Kept;
 use bg_types::Memory;
 
 /// A level run: the places from `start` on, up to `end`.
-#[derive(Clone, Copy, Debug, PartialEq, Eq, Hash)]
+#[derive(Clone, Copy, Debug)]
 pub struct LevelRun {
     pub start: usize,
     pub end: usize,
