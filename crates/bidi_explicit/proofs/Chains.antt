@@ -4,7 +4,7 @@ use Rattle.std.specs.Prelude.{is_some}
 use Rattle.std.specs.List.{range_with_len}
 use Rattle.std.proofs.lemmas.Option.{slice_get-get_or}
 use Rattle.bidi_explicit.specs.declared.kept.Kept.{Kept}
-use Rattle.bidi_explicit.specs.Sequences.{kept_at, is_kept, kept_from, kept_after, kept_before, has_level_of, over_isolate, next_by, chain, last_or}
+use Rattle.bidi_explicit.specs.Sequences.{kept_at, is_kept, kept_from, kept_after, has_level_of, over_isolate, next_by, chain, last_or}
 use Rattle.bidi_explicit.specs.LevelRuns.{places_between}
 
 pub kept_at-is : (places : List (Option Kept)) (i : ℕ) (d : Option Kept) → i < length places → kept_at places i ≡ get_or places i d
@@ -22,24 +22,10 @@ from_first : (i : ℕ) (o : Option Kept) (rest : List (Option Kept)) → is_some
 from_first i (Some k) rest h = refl
 from_first i None rest h = cc
 
-from_later : (i : ℕ) (o : Option Kept) (rest : List (Option Kept)) → is_some o ≡ false → kept_from i (o ∷ rest) ≡ kept_from (suc i) rest
-from_later i (Some k) rest h = cc
-from_later i None rest h = refl
-
--- a search from place i finds it or goes on
+-- a search from place i finds it
 pub kept_from-here : (places : List (Option Kept)) (i : ℕ) (d : Option Kept) → i < length places → is_some (get_or places i d) ≡ true →
     kept_from i (drop i places) ≡ Some i
 kept_from-here places i d inside h = ap (kept_from i) (drop-cons places i d inside) ∙ from_first i (get_or places i d) (drop (suc i) places) h
-
-pub kept_from-on : (places : List (Option Kept)) (i : ℕ) (d : Option Kept) → i < length places → is_some (get_or places i d) ≡ false →
-    kept_from i (drop i places) ≡ kept_from (suc i) (drop (suc i) places)
-kept_from-on places i d inside h = ap (kept_from i) (drop-cons places i d inside) ∙ from_later i (get_or places i d) (drop (suc i) places) h
-
-pub kept_before-here : (places : List (Option Kept)) (i : ℕ) → is_kept places i ≡ true → kept_before places (suc i) ≡ Some i
-kept_before-here places i h = rw h refl
-
-pub kept_before-on : (places : List (Option Kept)) (i : ℕ) → is_kept places i ≡ false → kept_before places (suc i) ≡ kept_before places i
-kept_before-on places i h = rw h refl
 
 -- each link leads on, to a place before n
 abbrev pub IsForward : (ℕ → Option ℕ) → ℕ → Type 0
@@ -121,15 +107,6 @@ range-more a zero = ap (λ k. k ∷ []) (sym (add-zero a))
 range-more a (suc n) =
     let e : (a + 1) + n ≡ a + suc n = omega arith in
     ap (λ xs. a ∷ xs) (range-more (a + 1) n ∙ ap (λ k. range_with_len (a + 1) n ++ k ∷ []) e)
-
-pub between-none : (a : ℕ) → places_between a a ≡ []
-between-none a = let none : a - a ≡ 0 = omega arith in ap (range_with_len a) none
-
-pub between-more : (a b : ℕ) → a ≤ b → places_between a (b + 1) ≡ places_between a b ++ b ∷ []
-between-more a b le =
-    let count : (b + 1) - a ≡ suc (b - a) = omega arith in
-    let at : a + (b - a) ≡ b = omega arith in
-    ap (range_with_len a) count ∙ range-more a (b - a) ∙ ap (λ k. range_with_len a (b - a) ++ k ∷ []) at
 
 -- the walk goes along places that follow each other
 IsWalkedTo-along : (f : ℕ → Option ℕ) (n : ℕ) → IsForward f n → (first start : ℕ) (old order : List ℕ) (m : ℕ) →

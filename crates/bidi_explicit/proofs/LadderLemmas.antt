@@ -1,10 +1,8 @@
 -- Lemmas on the ladder of levels that a stack keeps.
-use Rattle.std.proofs.Common.{ℕ, zero, suc, ◌≡◌, ◌+◌, ◌-◌, ◌<◌, ◌≤◌, refl, sym, List, [], ◌∷◌, ◌++◌, length, reverse, Bool, true, false, cond, Option, ap, ◌∙◌, arith}
+use Rattle.std.proofs.Common.{ℕ, zero, suc, ◌≡◌, ◌+◌, ◌-◌, ◌<◌, ◌≤◌, refl, sym, List, [], ◌∷◌, ◌++◌, length, reverse, Bool, true, false, cond, ap, ◌∙◌, arith}
 use Rattle.std.proofs.lemmas.List.{length-reverse, reverse-append}
-use Rattle.bg_types.specs.declared.class.Bidi.{Bidi}
 use Rattle.bidi_explicit.specs.declared.kind.Entry.{Entry}
-use Rattle.bidi_explicit.specs.Levels.{next_level}
-use Rattle.bidi_explicit.specs.Flat.{top, below_isolate, below_embedding, pushed}
+use Rattle.bidi_explicit.specs.Flat.{below_isolate}
 use Rattle.bidi_explicit.specs.Ladder.{IsLadder, isolate_count}
 
 ladder-length : (e : Entry) (es : List Entry) → IsLadder (e ∷ es) → (length (e ∷ es) ≤ e.direction.level + 1) × (e.direction.level ≤ 125)
@@ -17,28 +15,6 @@ ladder-room items l = go (reverse items) l (sym (length-reverse items))
     go : (es : List Entry) → IsLadder es → length items ≡ length es → length items ≤ 126
     go [] l e = absurd l
     go (e ∷ es) l h = let both = ladder-length e es l in omega arith
-
-pub next_level-above : (odd : Bool) (l : ℕ) → l < next_level odd l
-next_level-above true l = omega arith
-next_level-above false l = omega arith
-
-pub ladder-top : (es : List Entry) → IsLadder es → (top es).level ≤ 125
-ladder-top [] l = absurd l
-ladder-top (e ∷ es) l = (ladder-length e es l).1
-
-pub ladder-pushed : (es : List Entry) (odd own : Bool) (o : Option Bidi) → IsLadder es → next_level odd (top es).level ≤ 125 →
-    IsLadder (pushed (next_level odd (top es).level) o own es)
-ladder-pushed [] odd own o l fit = absurd l
-ladder-pushed (e ∷ es) odd own o l fit = (next_level-above odd e.direction.level, fit, l)
-
-pub ladder-below_embedding : (es : List Entry) → IsLadder es → IsLadder (below_embedding es) × (isolate_count (below_embedding es) ≡ isolate_count es)
-ladder-below_embedding [] l = absurd l
-ladder-below_embedding (e ∷ []) l = (l, refl)
-ladder-below_embedding (e ∷ f ∷ es) l = go e.of_isolate refl
-  where
-    go : (b : Bool) → e.of_isolate ≡ b → IsLadder (below_embedding (e ∷ f ∷ es)) × (isolate_count (below_embedding (e ∷ f ∷ es)) ≡ isolate_count (e ∷ f ∷ es))
-    go true h = rw h (l, refl)
-    go false h = rw h (l.2, refl)
 
 isolate-step : (e f : Entry) (es : List Entry) (n : ℕ) → IsLadder (e ∷ f ∷ es) → isolate_count (e ∷ f ∷ es) ≡ suc n →
     (b : Bool) → e.of_isolate ≡ b →

@@ -211,6 +211,3 @@ pub All-part : (P : ℕ → Type 0) (runs : List LevelRun) (a b : ℕ) → All P
 All-part P runs a b all =
     let behind = All-right P (run_places (take a runs)) (run_places (drop a runs)) (All-same P _ _ (parts runs a) all) in
     All-left P (run_places (take (b - a) (drop a runs))) (run_places (drop (b - a) (drop a runs))) (All-same P _ _ (parts (drop a runs) (b - a)) behind)
-
-pub own-none : (r : LevelRun) → r.end ≤ r.start → own_places r ≡ []
-own-none r past = let none : r.end - r.start ≡ 0 = omega arith in ap (range_with_len r.start) none

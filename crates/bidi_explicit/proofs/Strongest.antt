@@ -119,9 +119,6 @@ module _ (tables : TableValues) (text rest : List ℕ) (depth : ℕ) (s : IsScan
   depth-le Pdi = omega arith
   depth-le _ = omega arith
 
-  pub has_room : depth + 1 ≤ length text
-  has_room = let t = takes_byte in let f = s.few in omega arith
-
   pub IsScanned-on : (d : ℕ) → d ≡ depth_behind depth (bidi_of tables c) →
       (depth ≡ 0 → strong_level (bidi_of tables c) ≡ None) → IsScanned tables text after d
   IsScanned-on d behind weak = record {
