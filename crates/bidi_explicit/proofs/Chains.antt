@@ -1,10 +1,10 @@
 -- Kept places, and chains of links.
-use Rattle.std.proofs.Common.{ℕ, zero, suc, ◌≡◌, ◌≤◌, ◌<◌, ◌+◌, ◌-◌, refl, ap, sym, subst, ◌∙◌, List, [], ◌∷◌, ◌++◌, length, get_or, drop, drop-cons, Option, Some, None, Bool, true, false, append_assoc, append-nil, add-zero, arith}
+use Rattle.std.proofs.Common.{ℕ, zero, suc, ◌≡◌, ◌≤◌, ◌<◌, ◌+◌, ◌-◌, refl, ap, ap₂, sym, subst, ◌∙◌, List, [], ◌∷◌, ◌++◌, length, get_or, drop, drop-cons, Option, Some, None, Bool, true, false, append_assoc, append-nil, add-zero, arith}
 use Rattle.std.specs.Prelude.{is_some}
 use Rattle.std.specs.List.{range_with_len}
 use Rattle.std.proofs.lemmas.Option.{slice_get-get_or}
 use Rattle.bidi_explicit.specs.declared.kept.Kept.{Kept}
-use Rattle.bidi_explicit.specs.Sequences.{kept_at, is_kept, kept_from, kept_after, has_level_of, over_isolate, next_by, chain, last_or}
+use Rattle.bidi_explicit.specs.Sequences.{kept_at, is_kept, kept_from, kept_after, same_level, has_level_of, over_isolate, next_by, chain, last_or}
 use Rattle.bidi_explicit.specs.LevelRuns.{places_between}
 
 pub kept_at-is : (places : List (Option Kept)) (i : ℕ) (d : Option Kept) → i < length places → kept_at places i ≡ get_or places i d
@@ -17,6 +17,11 @@ pub is_kept-within : (places : List (Option Kept)) (i : ℕ) → is_kept places 
 is_kept-within [] i h = cc
 is_kept-within (p ∷ ps) zero h = omega arith
 is_kept-within (p ∷ ps) (suc i) h = let e = is_kept-within ps i h in omega arith
+
+-- two places of the list at one level
+pub has_level_of-is : (places : List (Option Kept)) (i j : ℕ) (d : Option Kept) → i < length places → j < length places →
+    has_level_of places i (Some j) ≡ same_level (get_or places i d) (get_or places j d)
+has_level_of-is places i j d inside other = ap₂ same_level (kept_at-is places i d inside) (kept_at-is places j d other)
 
 from_first : (i : ℕ) (o : Option Kept) (rest : List (Option Kept)) → is_some o ≡ true → kept_from i (o ∷ rest) ≡ Some i
 from_first i (Some k) rest h = refl

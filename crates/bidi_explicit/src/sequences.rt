@@ -1,7 +1,7 @@
 //! Isolating run sequences (UAX #9, BD13 and X10).
 
 ghost use Rattle.std.specs.Prelude.{◌≡◌, ◌==◌, ◌<◌, ◌≤◌, ◌++◌, [], Some, IfOk, IfSome, OnOk, is_some, length, ◌&&◌, replicate, take};
-ghost use Rattle.bidi_explicit.specs.Sequences.{chain, chains, direction_between, eos_of, has_level_of, kept_after, kept_before, last_or, level_or, next_by, over_isolate, sos_of};
+ghost use Rattle.bidi_explicit.specs.Sequences.{chain, chains, direction_between, eos_of, kept_after, kept_before, last_or, level_or, next_by, over_isolate, sos_of};
 ghost use Rattle.bidi_explicit.specs.Extents.{extent_of, extent_sequences, IsWithin};
 ghost use Rattle.bidi_explicit.specs.Links.{is_unclosed, is_unclosed_at, linked, AreKept, AreMatched};
 ghost use Rattle.bidi_explicit.specs.LevelRuns.{AreNoted, run_places};
@@ -41,15 +41,6 @@ fn kept_before(places: &[Option<Kept>], place: usize) -> Option<usize>
     None
 }
 
-/// Whether a place has the level of another.
-fn has_level_of(places: &[Option<Kept>], place: usize, other: usize) -> bool
-    requires place { place < length places.now }
-    requires other { other < length places.now }
-    ensures { result ≡ has_level_of places.now place (Some other) }
-{
-    same_level(places[place], places[other])
-}
-
 /// The level of a kept place, or the paragraph's.
 fn level_or(level: u8, places: &[Option<Kept>], place: Option<usize>) -> u8
     requires { IfSome place (λ i. i < length places.now) }
@@ -82,7 +73,7 @@ fn next(places: &[Option<Kept>], pdi: Option<usize>, place: usize) -> Option<usi
         return None;
     }
     if let Some(after) = kept_after(places, place) {
-        if has_level_of(places, place, after) {
+        if same_level(places[place], places[after]) {
             return Some(after);
         }
     }
@@ -96,7 +87,7 @@ fn over_isolate(places: &[Option<Kept>], pdi: usize) -> Option<usize>
     ensures same { IfSome result (λ i. i ≡ pdi) }
 {
     if let Some(before) = kept_before(places, pdi) {
-        if has_level_of(places, pdi, before) {
+        if same_level(places[pdi], places[before]) {
             return None;
         }
     }

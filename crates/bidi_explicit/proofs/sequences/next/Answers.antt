@@ -1,9 +1,9 @@
 -- The next kept place, or the PDI.
 use Rattle.std.proofs.Common.{◌≡◌, ◌∙◌, ◌<◌, ℕ, Option, None, Some, IfSome, false, not, length, ap, sym, subst}
 use Rattle.bidi_explicit.specs.Sequences.{has_level_of, kept_after, over_isolate}
-use Rattle.bidi_explicit.proofs.Chains.{is_kept-is, next-out, next-after, next-over}
+use Rattle.bidi_explicit.proofs.Chains.{is_kept-is, has_level_of-is, next-out, next-after, next-over}
 use Rattle.bidi_explicit.proofs.sequences.next.Goals as goal
-use Rattle.bidi_explicit.proofs.sequences.next.Goals.{in-Some+else-has_level_of, in_default}
+use Rattle.bidi_explicit.proofs.sequences.next.Goals.{in-Some+else-same_level, in_default}
 
 -- what holds of a number holds of an optional one that is none other
 inside-same : (P : ℕ → Type 0) (o : Option ℕ) (n : ℕ) → IfSome o (λ i. i ≡ n) → P n → IfSome o P
@@ -17,16 +17,17 @@ returns-then-is_none-clause-next c =
 pub returns-then-is_none-clause-inside : goal.returns-then-is_none-clause-inside
 returns-then-is_none-clause-inside c = tt
 
-pub has_level_of-requires-clause-other : goal.has_level_of-requires-clause-other
-has_level_of-requires-clause-other c = c.in-Some.ensures.inside.1
+pub bounds-places-after : goal.bounds-places-after
+bounds-places-after c = c.in-Some.ensures.inside.1
 
-pub returns-then-has_level_of-clause-next : goal.returns-then-has_level_of-clause-next
-returns-then-has_level_of-clause-next c =
+pub returns-then-same_level-clause-next : goal.returns-then-same_level-clause-next
+returns-then-same_level-clause-next c =
     let kept = is_kept-is c.args.places.now c.args.place None _ c.requires.place (c.is_none.ensures ∙ ap not c.if-is_none.false) in
-    sym (next-after c.args.places.now c.args.pdi c.args.place kept c.in-Some.after (sym c.in-Some.ensures.kept) (sym c.has_level_of.ensures ∙ c.if-has_level_of.true))
+    sym (next-after c.args.places.now c.args.pdi c.args.place kept c.in-Some.after (sym c.in-Some.ensures.kept)
+    (has_level_of-is c.args.places.now c.args.place c.in-Some.after None c.requires.place c.in-Some.ensures.inside.1 ∙ sym c.same_level.ensures ∙ c.if-same_level.true))
 
-pub returns-then-has_level_of-clause-inside : goal.returns-then-has_level_of-clause-inside
-returns-then-has_level_of-clause-inside c = c.in-Some.ensures.inside
+pub returns-then-same_level-clause-inside : goal.returns-then-same_level-clause-inside
+returns-then-same_level-clause-inside c = c.in-Some.ensures.inside
 
 pub over_isolate-requires : goal.over_isolate-requires
 over_isolate-requires c =
@@ -40,7 +41,9 @@ returns-clause-next c =
     let kept = is_kept-is places place None _ c.requires.place (c.is_none.ensures ∙ ap not c.if-is_none.false) in
     let apart : has_level_of places place (kept_after places place) ≡ false =
     elim c.match-kept_after.branch [
-      | in-Some+else-has_level_of w ↦ ap (has_level_of places place) (sym w.in-Some.ensures.kept) ∙ sym w.has_level_of.ensures ∙ w.if-has_level_of.false
+      | in-Some+else-same_level w ↦
+          ap (has_level_of places place) (sym w.in-Some.ensures.kept)
+          ∙ has_level_of-is places place w.in-Some.after None c.requires.place w.in-Some.ensures.inside.1 ∙ sym w.same_level.ensures ∙ w.if-same_level.false
       | in_default w ↦ ap (has_level_of places place) (sym w.in_default.ensures.kept)
     ] in
     c.over_isolate.ensures.over ∙ ap (over_isolate places) (sym c.in_ok-pdi.was) ∙ sym (next-over places c.args.pdi place kept apart)
