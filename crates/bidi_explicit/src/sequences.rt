@@ -134,21 +134,11 @@ fn eos(level: u8, control: Control, places: &[Option<Kept>], last: usize) -> Bid
     requires { last < length places.now }
     ensures { result ≡ eos_of level (is_unclosed control) places.now last }
 {
-    let behind = if is_unclosed(control) {
-        level
-    } else {
-        level_or(level, places, kept_after(places, last))
-    };
-    direction_between(level_or(level, places, Some(last)), behind)
-}
-
-/// Whether the control is that of an initiator that no PDI matches.
-fn is_unclosed(control: Control) -> bool
-    ensures { result ≡ is_unclosed control }
-{
+    let own = level_or(level, places, Some(last));
     match (control.kind, control.pdi) {
-        (Kind::Initiator(_), None) => true,
-        _ => false,
+        // An initiator that no PDI matches.
+        (Kind::Initiator(_), None) => direction_between(own, level),
+        _ => direction_between(own, level_or(level, places, kept_after(places, last))),
     }
 }
 
