@@ -114,24 +114,8 @@ fn put_under(
     end
 }
 
-/// Puts what is kept at each place of a paragraph of this level, in one pass from its start.
-fn put_places(places: &mut [Option<Kept>], level: u8, classes: &[Bidi], controls: &[Control])
-    requires level { level ≤ 1 }
-    requires long { length places.old ≡ length classes.now }
-    requires matched { controls.now ≡ controls_from 0 classes.now }
-    ensures { places.new ≡ explicit_places level classes.now }
-{
-    let mut stack = LevelStack::new(level);
-    let mut i = put_under(places, classes, 0, stack.top());
-    while i < classes.len() {
-        let class = classes[i];
-        let taken = stack.advance(controls[i].kind);
-        places[i] = place_of(level, taken, class);
-        i = put_under(places, classes, i + 1, stack.top());
-    }
-}
-
-/// Puts what is kept at each place of a paragraph of this level into a list, in place of what it has.
+/// Puts what is kept at each place of a paragraph of this level into a list, in place of what it has, in one pass from the
+/// paragraph's start.
 pub(crate) fn places_into(
     places: &mut Vec<Option<Kept>>,
     level: u8,
@@ -143,6 +127,14 @@ pub(crate) fn places_into(
     ensures { OnOk result (places.new.items ≡ explicit_places level classes.now) }
 {
     places.resize(classes.len(), None)?;
-    put_places(places, level, classes, controls);
+    let kept = places.as_mut_slice();
+    let mut stack = LevelStack::new(level);
+    let mut i = put_under(kept, classes, 0, stack.top());
+    while i < classes.len() {
+        let class = classes[i];
+        let taken = stack.advance(controls[i].kind);
+        kept[i] = place_of(level, taken, class);
+        i = put_under(kept, classes, i + 1, stack.top());
+    }
     Ok(())
 }
