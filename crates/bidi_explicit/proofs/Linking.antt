@@ -4,10 +4,13 @@ use Rattle.std.specs.Prelude.{is_some, not, ◌&&◌, IfSome}
 use Rattle.std.proofs.lemmas.Bool.{cases_Bool}
 use Rattle.std.proofs.lemmas.List.{length-drop}
 use Rattle.std.proofs.lemmas.Option.{slice_get-get_or}
+use Rattle.bg_types.specs.declared.class.Bidi.{Bidi}
 use Rattle.bidi_explicit.specs.declared.controls.Control.{Control}
+use Rattle.bidi_explicit.specs.declared.embedded.Extent.{Extent}
 use Rattle.bidi_explicit.specs.declared.kept.Kept.{Kept}
-use Rattle.bidi_explicit.specs.Sequences.{kept_at, is_kept, same_level, has_level_of, kept_from, kept_after, kept_before, over_isolate, next_by, below, follows, begins}
-use Rattle.bidi_explicit.specs.Links.{pdi_at, linked, AreKept, AreMatched}
+use Rattle.bidi_explicit.specs.Sequences.{kept_at, is_kept, same_level, has_level_of, kept_from, kept_after, kept_before, over_isolate, next_by, below, follows, begins, last_or, level_or, sos_of, eos_of}
+use Rattle.bidi_explicit.specs.Extents.{extent_of}
+use Rattle.bidi_explicit.specs.Links.{pdi_at, linked, is_unclosed, is_unclosed_at, AreKept, AreMatched}
 use Rattle.bidi_explicit.specs.LevelRuns.{IsLevelRun}
 use Rattle.bidi_explicit.proofs.Chains.{kept_at-is, kept_from-here, next-out, next-after, range-more, IsForward}
 use Rattle.bidi_explicit.proofs.Runs.{run-beside}
@@ -119,6 +122,17 @@ linked-kept controls places kept i j e =
 
 pub pdi_at-is : (controls : List Control) (i : ℕ) (d : Control) → i < length controls → pdi_at controls i ≡ (get_or controls i d).pdi
 pdi_at-is controls i d inside = rw (slice_get-get_or controls i d inside, pdi_at) refl
+
+-- what is known of a sequence that ends at `last` is its extent
+pub extent-is : (p : ℕ) (controls : List Control) (places : List (Option Kept)) (first last : ℕ) (chained : List ℕ) (d : Control) → last < length controls →
+    last ≡ last_or first chained → (start from stop to level : ℕ) (sos eos : Bidi) → start ≡ from → stop ≡ to → level ≡ level_or p places (Some first) →
+    sos ≡ sos_of p places first → eos ≡ eos_of p (is_unclosed (get_or controls last d)) places last →
+    ◌≡◌ {A = Extent} (record { start = start; end = stop; level = level; sos = sos; eos = eos }) (extent_of p (is_unclosed_at controls) places from to first chained)
+extent-is p controls places first last chained d inside at start from stop to level sos eos is-from is-to is-level is-sos is-eos =
+    let unclosed : is_unclosed_at controls last ≡ is_unclosed (get_or controls last d) = rw (slice_get-get_or controls last d inside, is_unclosed_at) refl in
+    let behind : eos ≡ eos_of p (is_unclosed_at controls (last_or first chained)) places (last_or first chained) =
+    is-eos ∙ ap (λ u. eos_of p u places last) (sym unclosed) ∙ ap (λ i. eos_of p (is_unclosed_at controls i) places i) at in
+    rw (is-from, is-to, is-level, is-sos, behind) refl
 
 pub matched-here : (controls : List Control) (places : List (Option Kept)) (i : ℕ) (d : Control) → AreMatched controls → length controls ≡ length places →
     i < length controls → IfSome ((get_or controls i d).pdi) (λ j. (i < j) × (j < length places))

@@ -1,7 +1,7 @@
 //! Isolating run sequences (UAX #9, BD13 and X10).
 
 ghost use Rattle.std.specs.Prelude.{◌≡◌, ◌==◌, ◌<◌, ◌≤◌, ◌++◌, [], Some, IfOk, IfSome, OnOk, is_some, length, ◌&&◌, replicate, take};
-ghost use Rattle.bidi_explicit.specs.Sequences.{chain, chains, direction_between, eos_of, kept_after, kept_before, last_or, level_or, next_by, over_isolate, sos_of};
+ghost use Rattle.bidi_explicit.specs.Sequences.{chain, chains, direction_between, eos_of, kept_after, kept_before, level_or, next_by, over_isolate, sos_of};
 ghost use Rattle.bidi_explicit.specs.Extents.{extent_of, extent_sequences, IsWithin};
 ghost use Rattle.bidi_explicit.specs.Links.{is_unclosed, is_unclosed_at, linked, AreKept, AreMatched};
 ghost use Rattle.bidi_explicit.specs.LevelRuns.{AreNoted, run_places};
@@ -94,32 +94,6 @@ fn over_isolate(places: &[Option<Kept>], pdi: usize) -> Option<usize>
     Some(pdi)
 }
 
-/// Appends the level runs of the chain that begins at `first`, notes their ends, and returns the last place.
-fn append_chain(
-    runs: &mut Vec<LevelRun>,
-    ends: &mut [usize],
-    controls: &[Control],
-    places: &[Option<Kept>],
-    first: usize,
-) -> Result<usize, Memory>
-    requires first { first < length places.now }
-    requires controls { length controls.now ≡ length places.now }
-    requires matched { AreMatched controls.now }
-    requires long { length ends.old ≡ length places.now }
-    requires noted { AreNoted places.now runs.old.items ends.old }
-    ensures before { OnOk result (take (length runs.old.items) runs.new.items ≡ runs.old.items) }
-    ensures chain { OnOk result (run_places runs.new.items ≡ run_places runs.old.items ++ chain (linked controls.now places.now) (length places.now) first) }
-    ensures last { IfOk result (λ last. last ≡ last_or first (chain (linked controls.now places.now) (length places.now) first)) }
-    ensures inside { IfOk result (λ last. last < length places.now) }
-    ensures noted { OnOk result (AreNoted places.now runs.new.items ends.new) }
-{
-    let mut last = append_run(runs, ends, places, first)?;
-    while let Some(start) = next(places, controls[last].pdi, last) {
-        last = append_run(runs, ends, places, start)?;
-    }
-    Ok(last)
-}
-
 /// The direction before a sequence that begins at `first`.
 fn sos(level: u8, places: &[Option<Kept>], first: usize) -> Bidi
     requires { first < length places.now }
@@ -149,7 +123,7 @@ fn begins(place: Option<Kept>, end: usize) -> bool
     place.is_some() && end == 0
 }
 
-/// Appends the sequence that begins at `first`, and notes the ends of its level runs.
+/// Appends the level runs of the sequence that begins at `first`, and notes their ends.
 fn append_sequence(
     runs: &mut Vec<LevelRun>,
     ends: &mut [usize],
@@ -169,7 +143,10 @@ fn append_sequence(
     ensures noted { OnOk result (AreNoted places.now runs.new.items ends.new) }
 {
     let start = runs.len();
-    let last = append_chain(runs, ends, controls, places, first)?;
+    let mut last = append_run(runs, ends, places, first)?;
+    while let Some(place) = next(places, controls[last].pdi, last) {
+        last = append_run(runs, ends, places, place)?;
+    }
     Ok(Extent {
         start,
         end: runs.len(),
