@@ -1,6 +1,6 @@
 //! Isolating run sequences (UAX #9, BD13 and X10).
 
-ghost use Rattle.std.specs.Prelude.{◌≡◌, ◌==◌, ◌<◌, ◌≤◌, ◌++◌, [], Some, IfOk, IfSome, OnOk, is_some, length, ◌&&◌, replicate, take};
+ghost use Rattle.std.specs.Prelude.{◌≡◌, ◌<◌, ◌≤◌, ◌++◌, [], Some, IfOk, IfSome, OnOk, length, take};
 ghost use Rattle.bidi_explicit.specs.Sequences.{chain, chains, direction_between, eos_of, kept_after, kept_before, level_or, next_by, over_isolate, sos_of};
 ghost use Rattle.bidi_explicit.specs.Extents.{extent_of, extent_sequences, IsWithin};
 ghost use Rattle.bidi_explicit.specs.Links.{is_unclosed, is_unclosed_at, linked, AreKept, AreMatched};
@@ -116,13 +116,6 @@ fn eos(level: u8, control: Control, places: &[Option<Kept>], last: usize) -> Bid
     }
 }
 
-/// Whether the sequence of a place at which a level run begins is a new one, given the end that is noted there, or 0.
-fn begins(place: Option<Kept>, end: usize) -> bool
-    ensures { result ≡ (is_some place && end == 0) }
-{
-    place.is_some() && end == 0
-}
-
 /// Appends the level runs of the sequence that begins at `first`, and notes their ends.
 fn append_sequence(
     runs: &mut Vec<LevelRun>,
@@ -156,37 +149,8 @@ fn append_sequence(
     })
 }
 
-/// Appends each sequence where it begins, and its extent. What a sequence has already is passed a level run at a time.
-fn append_sequences(
-    runs: &mut Vec<LevelRun>,
-    extents: &mut Vec<Extent>,
-    ends: &mut [usize],
-    level: u8,
-    controls: &[Control],
-    places: &[Option<Kept>],
-) -> Result<(), Memory>
-    requires runs { runs.old.items ≡ [] }
-    requires extents { extents.old.items ≡ [] }
-    requires ends { ends.old ≡ replicate (length places.now) 0 }
-    requires long { length controls.now ≡ length places.now }
-    requires matched { AreMatched controls.now }
-    requires kept { AreKept controls.now places.now }
-    ensures sequences { OnOk result (extent_sequences runs.new.items extents.new.items ≡ chains level (linked controls.now places.now) (is_unclosed_at controls.now) places.now) }
-    ensures within { OnOk result (IsWithin places.now runs.new.items extents.new.items) }
-{
-    let mut first = 0;
-    while first < places.len() {
-        if begins(places[first], ends[first]) {
-            let extent = append_sequence(runs, ends, level, controls, places, first)?;
-            extents.push(extent)?;
-        }
-        first = ends[first].max(first + 1);
-    }
-    Ok(())
-}
-
 /// Puts the isolating run sequences of a paragraph of this level into two lists, in place of what they have: their level
-/// runs, one sequence after the other, and the part of each.
+/// runs, one sequence after the other, and the part of each. Notes where level runs end in a third.
 pub(crate) fn sequences_into(
     runs: &mut Vec<LevelRun>,
     extents: &mut Vec<Extent>,
@@ -205,5 +169,15 @@ pub(crate) fn sequences_into(
     extents.clear();
     ends.clear();
     ends.resize(places.len(), 0)?;
-    append_sequences(runs, extents, ends, level, controls, places)
+    let noted = ends.as_mut_slice();
+    let mut first = 0;
+    while first < places.len() {
+        if places[first].is_some() && noted[first] == 0 {
+            let extent = append_sequence(runs, noted, level, controls, places, first)?;
+            extents.push(extent)?;
+        }
+        // What a sequence has already is passed a level run at a time.
+        first = noted[first].max(first + 1);
+    }
+    Ok(())
 }
