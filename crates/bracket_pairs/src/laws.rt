@@ -1,11 +1,9 @@
 //! What the definitions give for some texts: each function's contract says it, and the body is empty.
 
 ghost use Rattle.std.specs.Prelude.{◌≡◌, [], ◌∷◌, ◌++◌, codes, replicate};
-ghost use Rattle.bg_types.specs.declared.class.Bidi.TheVariants.{L, R, En, On, Nsm};
 ghost use Rattle.bracket_pairs.specs.declared.role.Role.TheVariants.{Opening, Closing};
 ghost use Rattle.bracket_pairs.specs.Pairs.{pair_of, pairs_in_order, search_end};
-ghost use Rattle.bracket_pairs.specs.N0.{pairs_resolved};
-ghost use Rattle.bracket_pairs.specs.Examples.{ascii_pairs, ascii_roles};
+ghost use Rattle.bracket_pairs.specs.Examples.{ascii_pairs};
 
 /// Modelled on the examples of UAX #9, BD16, with places from 0.
 pub fn pairs()
@@ -25,18 +23,4 @@ pub fn room()
     ensures enough { search_end (replicate 63 (Opening 41) ++ replicate 63 (Closing 41)) ≡ 126 }
     ensures full { search_end (replicate 64 (Opening 41) ++ replicate 64 (Closing 41)) ≡ 63 }
     ensures kept { pairs_in_order (Opening 41 ∷ Closing 41 ∷ replicate 64 (Opening 41) ++ Closing 41 ∷ []) ≡ pair_of 0 1 ∷ [] }
-{}
-
-/// N0 on a few sequences whose letters are L or R: `A` to `Z` stand for R, and `1` for EN.
-#[tactic(auto, unfolding(crate::specs::N0::direction_of, crate::specs::N0::pair_direction, crate::specs::N0::bracket_set, crate::specs::N0::is_nonspacing))]
-pub fn resolved_pairs()
-    ensures outer_first { pairs_resolved 0 L (ascii_roles (codes "aA([B]c)"))
-        (L ∷ R ∷ On ∷ On ∷ R ∷ On ∷ L ∷ On ∷ []) (L ∷ R ∷ On ∷ On ∷ R ∷ On ∷ L ∷ On ∷ [])
-        ≡ L ∷ R ∷ L ∷ L ∷ R ∷ L ∷ L ∷ L ∷ [] }
-    ensures marks { pairs_resolved 1 R (ascii_roles (codes "a(b)~B"))
-        (L ∷ On ∷ L ∷ On ∷ Nsm ∷ R ∷ []) (L ∷ On ∷ L ∷ On ∷ On ∷ R ∷ [])
-        ≡ L ∷ L ∷ L ∷ L ∷ L ∷ R ∷ [] }
-    ensures number { pairs_resolved 0 L (ascii_roles (codes "A(1)"))
-        (R ∷ On ∷ En ∷ On ∷ []) (R ∷ On ∷ En ∷ On ∷ [])
-        ≡ R ∷ R ∷ En ∷ R ∷ [] }
 {}
