@@ -5,4 +5,3 @@ pub mod SearchEnd
 pub mod SetBracket
 pub mod PairSteps
 pub mod Remembered
-pub mod NoBrackets

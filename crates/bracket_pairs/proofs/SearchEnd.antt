@@ -2,8 +2,8 @@
 use Rattle.std.proofs.Common.{ℕ, zero, suc, ◌≡◌, ◌<◌, ◌≤◌, refl, ap, ap₂, sym, subst, ◌∙◌, inl, inr, eqb, Bool, true, false, ◌&&◌, cond, List, [], ◌∷◌, ◌++◌, map, length, get_or, Option, Some, None, arith}
 use Rattle.std.specs.Prelude.{filter, find}
 use Rattle.std.specs.Option.{option_map}
-use Rattle.std.specs.List.{All, filter_map, cons_option}
-use Rattle.std.proofs.lemmas.Bool.{cases_Bool, cases_lt, eqb-true, ne_eqb, and_from, and_parts, le-leb, false≢true}
+use Rattle.std.specs.List.{All, filter_map, list_any, cons_option}
+use Rattle.std.proofs.lemmas.Bool.{cases_Bool, cases_lt, eqb-true, ne_eqb, and_from, and_parts, or_parts, le-leb, false≢true}
 use Rattle.std.proofs.lemmas.Option.{same_Some}
 use Rattle.std.proofs.lemmas.List.Folds.{find-append}
 use Rattle.std.proofs.lemmas.List.{append-nil, map-append}
@@ -36,6 +36,12 @@ pub length-roles : (tables : TableValues) (chars : List ℕ) (types : List Bidi)
 length-roles tables [] types same = refl
 length-roles tables (c ∷ chars) [] same = absurd (omega arith)
 length-roles tables (c ∷ chars) (t ∷ types) same = ap suc (length-roles tables chars types (omega arith))
+
+-- where no role opens, none at a place does
+pub opens-nowhere : (rs : List Role) → list_any opens rs ≡ false → (i : ℕ) → opens (role_at rs i) ≡ false
+opens-nowhere [] e i = refl
+opens-nowhere (r ∷ rs) e zero = (or_parts (opens r) (list_any opens rs) e).0
+opens-nowhere (r ∷ rs) e (suc i) = opens-nowhere rs (or_parts (opens r) (list_any opens rs) e).1 i
 
 -- the first place that passes
 find-first : (p : ℕ → Bool) (j n : ℕ) → j < n → find p (places j) ≡ None → p j ≡ true → find p (places n) ≡ Some j

@@ -8,7 +8,7 @@ ghost use Rattle.bracket_pairs.specs.Runs.{IsRun, Has};
 ghost use Rattle.bracket_pairs.specs.N0.{has_strong, last_strong, pair_direction, bracket_set, pair_set, pair_resolved, n0};
 
 use crate::direction::Direction;
-use crate::search::{Opened, has_opening, openings};
+use crate::search::{Opened, openings};
 use bg_types::{Bidi, Memory};
 use std::alloc::Global;
 use unicode_tables::Tables;
@@ -211,9 +211,6 @@ pub fn resolve(
     // No memory is taken where no opening bracket is.
     ensures none { list_any opens (roles tables.now chars.now types.old) ≡ false → IsOk result }
 {
-    if !has_opening(tables, chars, types) {
-        return Ok(());
-    }
     let openings = openings(alloc, tables, chars, types)?;
     resolve_pairs(
         Direction::of_level(level),

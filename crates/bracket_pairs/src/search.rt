@@ -1,6 +1,6 @@
 //! The search for pairs: BD16.
 
-ghost use Rattle.std.specs.Prelude.{◌≡◌, length, reverse, None, Some, IfOk, MatchOption};
+ghost use Rattle.std.specs.Prelude.{◌≡◌, false, length, reverse, None, Some, IfOk, IsOk, MatchOption};
 ghost use Rattle.std.specs.List.{list_any};
 ghost use Rattle.bracket_pairs.specs.Pairs.{opens, roles, pairs_in_order};
 ghost use Rattle.bracket_pairs.specs.Found.{closed_by, pairs_told, AreInOrder};
@@ -29,19 +29,6 @@ pub(crate) struct Opened {
     pub(crate) closing: Option<usize>,
 }
 
-/// Whether one of the characters is an opening bracket.
-pub(crate) fn has_opening(tables: &Tables, chars: &[char], types: &[Bidi]) -> bool
-    requires { length types.now ≡ length chars.now }
-    ensures { result ≡ list_any opens (roles tables.now chars.now types.now) }
-{
-    for (place, c) in chars.iter().enumerate() {
-        if let Role::Opening(_) = role_of(tables, *c, types[place]) {
-            return true;
-        }
-    }
-    false
-}
-
 /// Takes the topmost entry that waits for a closing bracket off the stack, with all above it.
 fn close(stack: &mut ArrayVec<Waiting, MOST_OPEN>, c: char) -> Option<Waiting>
     ensures { MatchOption result
@@ -58,7 +45,7 @@ fn close(stack: &mut ArrayVec<Waiting, MOST_OPEN>, c: char) -> Option<Waiting>
     None
 }
 
-/// The opening brackets that the search comes to, in their order.
+/// The opening brackets that the search comes to, in their order. Memory is taken for these alone.
 pub(crate) fn openings(
     alloc: Global,
     tables: &Tables,
@@ -68,6 +55,7 @@ pub(crate) fn openings(
     requires { length types.now ≡ length chars.now }
     ensures pairs { IfOk result (λ openings. pairs_told openings.items ≡ pairs_in_order (roles tables.now chars.now types.now)) }
     ensures order { IfOk result (λ openings. AreInOrder 0 (length chars.now) openings.items) }
+    ensures none { list_any opens (roles tables.now chars.now types.now) ≡ false → IsOk result }
 {
     let mut openings = Vec::new(alloc);
     let mut stack = ArrayVec::<Waiting, MOST_OPEN>::new();

@@ -1,10 +1,11 @@
 -- The goals of `openings` that are answered by hand.
-use Rattle.std.proofs.Common.{◌≡◌, ◌∙◌, refl, length, arith}
+use Rattle.std.proofs.Common.{◌≡◌, ◌∙◌, refl, ap, sym, length, arith}
+use Rattle.std.proofs.lemmas.Bool.{false≢true}
 use Rattle.std.proofs.lemmas.Bool.Decides.{nat_tests}
 use Rattle.bracket_pairs.specs.declared.role.Role.TheVariants.{Opening, Closing, Neither}
-use Rattle.bracket_pairs.specs.Pairs.{roles, role_at}
+use Rattle.bracket_pairs.specs.Pairs.{roles, role_at, opens}
 use Rattle.bracket_pairs.proofs.SearchSteps.{searched-is, step-open, step-neither, step-unmatched, step-matched, matched-within}
-use Rattle.bracket_pairs.proofs.SearchEnd.{role-read, length-roles, end-all, end-full, end-pairs, end-order}
+use Rattle.bracket_pairs.proofs.SearchEnd.{role-read, length-roles, opens-nowhere, end-all, end-full, end-pairs, end-order}
 use Rattle.bracket_pairs.proofs.search.openings.Goals as goal
 use Rattle.bracket_pairs.proofs.search.openings.Goals.{in-Opening+else-is_full+in_ok-push-in-Opening, in-Closing+in-Some, in-Closing+in_default, in-Neither, else-loop-place-test, then-loop-place-test+in-Opening+then-is_full}
 
@@ -49,6 +50,15 @@ loop-place-preserved c =
           searched-is _ _ _ _ _ _ (cc) (cc)
           (step-neither rs c.loop-place.place c.loop-place.stack.items c.loop-place.openings.items c.loop-place.invariant role)
     ]
+
+-- memory is taken at an opening bracket alone
+pub returns-in_err-push-in-Opening-clause-none : goal.returns-in_err-push-in-Opening-clause-none
+returns-in_err-push-in-Opening-clause-none c = λ none.
+    let rs = roles c.args.tables.now c.args.chars.now c.args.types.now in
+    let role : role_at (roles c.args.tables.now c.args.chars.now c.args.types.now) c.loop-place.place ≡ Opening c.in-Opening.partner =
+    role-read c.args.tables.now c.args.chars.now c.args.types.now c.loop-place.place c.index-chars-place.result _ c.role_of.result (Opening c.in-Opening.partner)
+    c.requires (omega arith) c.index-chars-place.is c.role_of.ensures c.in-Opening.is in
+    absurd (false≢true (sym (opens-nowhere rs none c.loop-place.place) ∙ ap opens role))
 
 pub returns-clause-pairs : goal.returns-clause-pairs
 returns-clause-pairs c =
