@@ -20,10 +20,6 @@ pub record IsResolved (embedding : Direction) (sos : Option Direction) (openings
   pub resolved : types ≡ fold (pair_resolved embedding sos before_w1) first (pairs_told (take k openings))
   pub strong : before ≡ last_strong sos (take from types)
 
-pub resolved-none : (embedding : Direction) (sos : Option Direction) (openings : List Opened) (before_w1 first : List Bidi) →
-    IsResolved embedding sos openings before_w1 first 0 0 sos first
-resolved-none embedding sos openings before_w1 first = record { resolved = refl; strong = refl }
-
 -- a bracket changes nothing before it
 pub bracket-before : (t : Bidi) (before_w1 types : List Bidi) (i place : ℕ) → i ≤ place → place < length types → take i (bracket_set t before_w1 types place) ≡ take i types
 unfolding bracket_set
