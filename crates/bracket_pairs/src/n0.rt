@@ -1,6 +1,6 @@
 //! What pairs do to the types of a sequence: N0.
 
-ghost use Rattle.std.specs.Prelude.{◌≡◌, ◌+◌, ◌<◌, ◌≤◌, true, false, length, fold, slice_range, OnOk, OnErr, IsOk};
+ghost use Rattle.std.specs.Prelude.{◌≡◌, ◌+◌, ◌<◌, ◌≤◌, false, length, fold, slice_range, OnOk, OnErr, IsOk};
 ghost use Rattle.std.specs.List.{list_any};
 ghost use Rattle.bracket_pairs.specs.Pairs.{opens, pair_of, roles};
 ghost use Rattle.bracket_pairs.specs.Found.{pairs_told, AreInOrder};
@@ -19,15 +19,6 @@ struct Run {
     start: usize,
     end: usize,
     class: Bidi,
-}
-
-impl Run {
-    /// Whether a bracket there has this type already, and the marks after it too.
-    fn has(self, place: usize, class: Bidi) -> bool
-        ensures { result ≡ true → Has self place class }
-    {
-        self.start <= place && place < self.end && self.class == class
-    }
 }
 
 /// Gives a bracket a type, and the nonspacing marks after it too.
@@ -60,7 +51,7 @@ fn set_opening(run: Run, class: Bidi, place: usize, before_w1: &[Bidi], types: &
     ensures run { IsRun before_w1.now types.new result }
     ensures has { Has result place class }
 {
-    if run.has(place, class) {
+    if run.start <= place && place < run.end && run.class == class {
         return run;
     }
     set_bracket(class, place, before_w1, types)
