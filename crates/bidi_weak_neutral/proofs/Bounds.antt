@@ -4,12 +4,9 @@ use Rattle.std.specs.Prelude.{◌||◌, if◌then◌else◌}
 use Rattle.std.specs.List.{All}
 use Rattle.std.proofs.lemmas.List.Elements.{All-map, All-weaker}
 use Rattle.bg_types.specs.declared.class.Bidi.{Bidi}
-use Rattle.bg_types.specs.declared.class.Bidi.TheVariants.{L, R, Al}
-use Rattle.bg_types.specs.declared.class.Base.{Base}
-use Rattle.bg_types.specs.declared.class.Base.TheVariants.{Auto, Left, Right}
+use Rattle.bg_types.specs.declared.class.Bidi.TheVariants.{L, R}
 use Rattle.unicode_tables.specs.Tables.{TableValues}
-use Rattle.bidi_explicit.specs.Embedding.{Embedding, paragraph_level}
-use Rattle.bidi_explicit.specs.Nesting.{Nodes, end, char, isolate, unclosed, base, nest}
+use Rattle.bidi_explicit.specs.Embedding.{Embedding}
 use Rattle.bidi_weak_neutral.specs.Classes.{is, is_number}
 use Rattle.bidi_weak_neutral.specs.Neutral.{implicit_level}
 use Rattle.bidi_weak_neutral.specs.Levels.{types_of_sequence, sequence_levels, resolved_levels}
@@ -39,17 +36,3 @@ resolved_levels-le tables points e h depth =
     (All-weaker (λ s. s.level ≤ 125) (λ s. All (λ level. level ≤ 126) (sequence_levels tables points e.places s))
     (λ s low. All-map (λ level. level ≤ 126) (implicit_level s.level) (types_of_sequence tables points e.places s) (λ k d lt. implicit_level-le s.level _ low))
     e.sequences depth)
-
-base-le : (ns : Nodes) → base ns ≤ 1
-base-le end = omega arith
-base-le (char L rest) = omega arith
-base-le (char R rest) = omega arith
-base-le (char Al rest) = omega arith
-base-le (char c rest) = base-le rest
-base-le (isolate i held rest) = base-le rest
-base-le (unclosed i held) = omega arith
-
-pub paragraph_level-le : (b : Base) (cs : List Bidi) → paragraph_level b cs ≤ 1
-paragraph_level-le Auto cs = base-le (nest cs)
-paragraph_level-le Left cs = omega arith
-paragraph_level-le Right cs = omega arith

@@ -1,15 +1,14 @@
 -- W1 to W7 over letters of one strong type, and marks between and behind them.
 use Rattle.std.proofs.Common.{arith, ℕ, zero, suc, ◌+◌, ◌-◌, ◌<◌, ◌≤◌, ◌≡◌, refl, ap, sym, subst, ◌∙◌, List, [], ◌∷◌, ◌++◌, length, get_or, take, drop, replicate, length-drop, Bool, true, false, rules}
 use Rattle.std.specs.Prelude.{◌&&◌, ◌||◌, if◌then◌else◌}
-use Rattle.std.proofs.Math.Bool.{and-false}
 use Rattle.std.proofs.lemmas.Bool.{false≢true}
 use Rattle.std.proofs.lemmas.List.{append_assoc, drop-drop, drop_more, get_or-drop}
 use denote.Enum.Bare.{same_true}
 use Rattle.bg_types.specs.contracts.class.Bidi.{the_type}
 use Rattle.bg_types.specs.declared.class.Bidi.{Bidi}
-use Rattle.bg_types.specs.declared.class.Bidi.TheVariants.{L, En, Es, Et, An, Cs, Nsm}
+use Rattle.bg_types.specs.declared.class.Bidi.TheVariants.{L, En, Et, Nsm}
 use Rattle.bidi_weak_neutral.specs.Classes.{is, is_strong}
-use Rattle.bidi_weak_neutral.specs.Pass.{lettered, joined, terminated, goes_on, is_past_terminators}
+use Rattle.bidi_weak_neutral.specs.Pass.{lettered, terminated, goes_on, is_past_terminators}
 use Rattle.bidi_weak_neutral.proofs.WeakPass.{weak_from, strong-step, mark-step}
 
 by-either : (P : Type 0) (a b : Bool) → (a || b) ≡ true → (a ≡ true → P) → (b ≡ true → P) → P
@@ -80,13 +79,6 @@ unfolding is_strong
 strong-past Et h = absurd (false≢true h)
 strong-past Nsm h = absurd (false≢true h)
 strong-past x h = refl
-
--- W4 changes separators alone
-pub joined-other : (last y a : Bidi) → is y Es ≡ false → is y Cs ≡ false → joined last y a ≡ y
-joined-other last y a e c =
-    ap (λ b. if is last a && ((b && is last En) || (is y Cs && (is last En || is last An))) then last else y) e
-    ∙ ap (λ b. if is last a && (b && (is last En || is last An)) then last else y) c
-    ∙ ap (λ b. if b then last else y) (and-false (is last a))
 
 -- W5 changes terminators alone
 pub terminated-other : (beside j a : Bidi) → is j Et ≡ false → terminated beside j a ≡ j

@@ -40,9 +40,6 @@ pub levels_from-is : (level : ℕ) (sos eos : Bidi) (types : List Bidi)
 levels_from-is level sos eos types =
     ap (λ t. map (implicit_level level) (n2 level t)) (n1-is sos eos types) ∙ levels-scan level eos sos types
 
-if-same : (b : Bool) (x y : Bidi) → b ≡ false → (if b then x else y) ≡ y
-if-same b x y e = ap (λ b. if b then x else y) e
-
 -- a neutral has the type of its run
 type-of-neutral : (level : ℕ) (c d : Bidi) (same neutral : Bool) → is_neutral c ≡ true → is_neutral d ≡ neutral
     → n2_at level (if same then d else c) ≡ (if same && not neutral then d else embedding_direction level)

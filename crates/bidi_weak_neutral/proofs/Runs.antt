@@ -1,7 +1,7 @@
 -- The places up to the nearest one that passes a test.
-use Rattle.std.proofs.Common.{arith, ℕ, ◌+◌, ◌<◌, ◌≤◌, ◌≢◌, ◌≡◌, ap, sym, ◌∙◌, List, ◌∷◌, length, get_or, set, drop, below_more, Bool, false}
+use Rattle.std.proofs.Common.{arith, ℕ, ◌+◌, ◌<◌, ◌≤◌, ◌≡◌, ap, sym, ◌∙◌, List, ◌∷◌, length, get_or, drop, below_more, Bool, false}
 use Rattle.std.specs.Prelude.{if◌then◌else◌}
-use Rattle.std.proofs.lemmas.List.{drop_more, drop-set-lt, get_or-set_other}
+use Rattle.std.proofs.lemmas.List.{drop_more}
 use Rattle.bidi_weak_neutral.specs.Context.{nearest}
 
 -- from a place on, none passes before `end`, and the one there does, unless the list ends
@@ -21,15 +21,6 @@ pub IsRun-on : {A : Type 0} (passes : A → Bool) (d : A) (xs : List A) (i end :
 IsRun-on passes d xs i end lt before r = record {
   inside = λ k from to. r.inside k (omega arith) to;
   ahead = sym (nearest-drop passes d xs i lt (r.inside i (omega arith) before)) ∙ r.ahead;
-}
-
-pub IsRun-set : {A : Type 0} (passes : A → Bool) (d : A) (xs : List A) (i end : ℕ) (y : A) → i + 1 ≤ end
-    → IsRun passes d xs (i + 1) end → IsRun passes d (set xs i y) (i + 1) end
-IsRun-set passes d xs i end y before r = record {
-  inside = λ k from to. let other : k ≢ i = omega arith in ap passes (get_or-set_other xs i k y d other) ∙ r.inside k from to;
-  ahead =
-      let other : end ≢ i = omega arith in
-      ap (nearest passes d) (drop-set-lt (i + 1) xs i y (omega arith)) ∙ r.ahead ∙ sym (get_or-set_other xs i end y d other);
 }
 
 -- one more place

@@ -1,17 +1,15 @@
 -- The levels of a paragraph without controls: its places are one sequence, and all are kept.
 use Rattle.std.proofs.Common.{arith, ℕ, zero, suc, ◌+◌, ◌≡◌, refl, ap, ap₂, sym, ◌∙◌, List, [], ◌∷◌, map, length, replicate, false}
-use Rattle.std.specs.Prelude.{slice_index, nat_le}
+use Rattle.std.specs.Prelude.{slice_index}
 use Rattle.std.specs.List.{list_any, range_with_len}
 use Rattle.std.proofs.lemmas.List.{length-replicate, nil_from_length}
 use Rattle.bg_types.specs.declared.class.Bidi.{Bidi}
-use Rattle.bg_types.proofs.Interface.{two_cases}
 use Rattle.unicode_tables.specs.Tables.{TableValues}
 use Rattle.bidi_explicit.specs.Embedding.{embedding_at}
 use Rattle.bidi_explicit.specs.Sequences.{kept_at, below, direction_between}
 use Rattle.bidi_explicit.specs.Uniform.{is_control, kept_at_level, one_sequence}
 use Rattle.bidi_explicit.proofs.Interface.{embedding-uniform}
 use Rattle.bracket_pairs.specs.N0.{n0}
-use Rattle.bidi_weak_neutral.specs.Classes.{embedding_direction}
 use Rattle.bidi_weak_neutral.specs.Weak.{weak_types}
 use Rattle.bidi_weak_neutral.specs.Neutral.{n1, n2, implicit_level}
 use Rattle.bidi_weak_neutral.specs.Levels.{type_of, kept_levels, levels_at, resolved_levels}
@@ -43,9 +41,6 @@ filled-kept level before [] [] n = refl
 filled-kept level before [] (l ∷ ls) n = absurd (omega arith)
 filled-kept level before (c ∷ cs) [] n = absurd (omega arith)
 filled-kept level before (c ∷ cs) (l ∷ ls) n = ap (λ t. l ∷ t) (filled-kept level l cs ls (omega arith))
-
-pub same-direction : (level : ℕ) → embedding_direction level ≡ direction_between level level
-same-direction level = two_cases (nat_le level level) (λ e. rw e refl) (λ e. rw e refl)
 
 module _ (tables : TableValues) (level : ℕ) where
   -- what the rules make of it, with its one sequence put back
