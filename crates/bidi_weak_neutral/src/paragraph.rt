@@ -12,7 +12,7 @@ ghost use Rattle.bidi_weak_neutral.specs.Levels.{kept_levels, filled_levels, typ
 use crate::buffers::{Buffers, SequenceLists};
 use crate::class::{embedding_direction, is_plain};
 use crate::neutral::put_levels;
-use crate::sequence::{gather, put_at_runs, resolve_types};
+use crate::sequence::{gather, put_at_runs};
 use crate::weak::resolve_weak;
 use bg_types::{Base, Bidi, Memory};
 use bidi_explicit::{Embedded, Kept, Sequence, has_controls, paragraph_level};
@@ -45,10 +45,14 @@ fn resolve_sequence(
         &mut lists.before,
     )?;
     lists.types.resize(lists.before.len(), Bidi::On)?;
-    resolve_types(
+    let level = sequence.level();
+    let sos = sequence.sos();
+    resolve_weak(&lists.before, &mut lists.types, sos);
+    resolve(
         alloc,
         tables,
-        sequence,
+        level,
+        sos,
         &lists.characters,
         &lists.before,
         &mut lists.types,

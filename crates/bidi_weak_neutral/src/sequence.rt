@@ -1,17 +1,13 @@
-//! One isolating run sequence: its characters and types, W1 to W7 and N0, and its levels put back.
+//! One isolating run sequence: its characters and types, and its levels put back.
 
 ghost use Rattle.std.specs.Prelude.{◌≡◌, OnOk, All, ◌<◌, ◌++◌, [], length, map, slice_index};
 ghost use Rattle.bidi_explicit.specs.LevelRuns.{HasPlace, run_places};
 ghost use Rattle.bidi_explicit.specs.Sequences.{kept_at};
-ghost use Rattle.bidi_weak_neutral.specs.Levels.{levels_at, type_of, types_after_n0};
+ghost use Rattle.bidi_weak_neutral.specs.Levels.{levels_at, type_of};
 
-use crate::weak::resolve_weak;
 use bg_types::{Bidi, Memory};
-use bidi_explicit::{Kept, LevelRun, Sequence};
-use bracket_pairs::resolve;
-use std::alloc::Global;
+use bidi_explicit::{Kept, LevelRun};
 use std::mem;
-use unicode_tables::Tables;
 
 /// The type of what is kept, after overrides.
 #[inline]
@@ -75,23 +71,4 @@ pub(crate) fn put_at_runs(levels: &mut [u8], runs: &[LevelRun], own: &[u8])
         levels[run.start..run.end].copy_from_slice(first);
         rest = behind;
     }
-}
-
-/// The types of a sequence after N0: `before` are those before W1.
-pub(crate) fn resolve_types(
-    alloc: Global,
-    tables: &Tables,
-    sequence: &Sequence,
-    characters: &[char],
-    before: &[Bidi],
-    types: &mut [Bidi],
-) -> Result<(), Memory>
-    requires characters { length characters.now ≡ length before.now }
-    requires types { length types.old ≡ length before.now }
-    ensures { OnOk result (types.new ≡ types_after_n0 tables.now sequence.now characters.now before.now) }
-{
-    let level = sequence.level();
-    let sos = sequence.sos();
-    resolve_weak(before, types, sos);
-    resolve(alloc, tables, level, sos, characters, before, types)
 }
