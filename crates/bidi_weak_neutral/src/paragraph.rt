@@ -7,7 +7,7 @@ ghost use Rattle.paragraphs.specs.Text.{code_points};
 ghost use Rattle.bidi_explicit.specs.Embedding.{embedding_at};
 ghost use Rattle.bidi_weak_neutral.specs.Classes.{is_plain};
 ghost use Rattle.bidi_weak_neutral.specs.Uniform.{uniform_levels};
-ghost use Rattle.bidi_weak_neutral.specs.Levels.{kept_levels, filled_levels, types_before, characters_of, types_after_n0, sequence_levels, put_back, resolved_levels, levels_of};
+ghost use Rattle.bidi_weak_neutral.specs.Levels.{kept_levels, filled_levels, sequence_levels, put_back, resolved_levels, levels_of};
 
 use crate::buffers::{Buffers, SequenceLists};
 use crate::class::{embedding_direction, is_plain};
@@ -21,8 +21,8 @@ use paragraphs::{Para, code_points_into};
 use std::alloc::Global;
 use unicode_tables::Tables;
 
-/// The types of a sequence of the paragraph after N0, in the list of types.
-fn resolve_sequence(
+/// The levels of a sequence of the paragraph, in the list of levels.
+fn sequence_levels(
     alloc: Global,
     tables: &Tables,
     points: &[char],
@@ -32,8 +32,9 @@ fn resolve_sequence(
 ) -> Result<(), Memory>
     requires points { All (λ i. i < length points.now) sequence.now.places }
     requires kept { All (λ i. i < length places.now) sequence.now.places }
-    ensures types { OnOk result (lists.new.types.items ≡ types_after_n0 tables.now sequence.now (characters_of points.now sequence.now) (types_before places.now sequence.now)) }
-    ensures one_each { OnOk result (length lists.new.types.items ≡ length sequence.now.places) }
+    requires level { sequence.now.level ≤ 125 }
+    ensures levels { OnOk result (lists.new.levels.items ≡ sequence_levels tables.now points.now places.now sequence.now) }
+    ensures one_each { OnOk result (length lists.new.levels.items ≡ length sequence.now.places) }
 {
     lists.characters.clear();
     lists.before.clear();
@@ -57,33 +58,8 @@ fn resolve_sequence(
         &lists.before,
         &mut lists.types,
     )?;
-    Ok(())
-}
-
-/// The levels of a sequence of the paragraph, in the list of levels.
-fn sequence_levels(
-    alloc: Global,
-    tables: &Tables,
-    points: &[char],
-    places: &[Option<Kept>],
-    sequence: &Sequence,
-    lists: &mut SequenceLists,
-) -> Result<(), Memory>
-    requires points { All (λ i. i < length points.now) sequence.now.places }
-    requires kept { All (λ i. i < length places.now) sequence.now.places }
-    requires level { sequence.now.level ≤ 125 }
-    ensures levels { OnOk result (lists.new.levels.items ≡ sequence_levels tables.now points.now places.now sequence.now) }
-    ensures one_each { OnOk result (length lists.new.levels.items ≡ length sequence.now.places) }
-{
-    resolve_sequence(alloc, tables, points, places, sequence, lists)?;
     lists.levels.resize(lists.types.len(), 0)?;
-    put_levels(
-        &mut lists.levels,
-        &lists.types,
-        sequence.level(),
-        sequence.sos(),
-        sequence.eos(),
-    );
+    put_levels(&mut lists.levels, &lists.types, level, sos, sequence.eos());
     Ok(())
 }
 
