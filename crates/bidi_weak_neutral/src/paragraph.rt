@@ -102,25 +102,6 @@ fn put_back(
     Ok(())
 }
 
-/// Resolves the levels in a list that has the paragraph level throughout.
-fn resolve_levels(
-    alloc: Global,
-    tables: &Tables,
-    points: &[char],
-    embedded: &Embedded,
-    levels: &mut [u8],
-    lists: &mut SequenceLists,
-) -> Result<(), Memory>
-    requires points { length points.now ≡ length embedded.now.places }
-    requires levels { levels.old ≡ replicate (length points.now) embedded.now.level }
-    requires depth { All (λ s. s.level ≤ 125) embedded.now.sequences }
-    ensures { OnOk result (levels.new ≡ resolved_levels tables.now points.now embedded.now) }
-{
-    put_back(alloc, tables, points, embedded, levels, lists)?;
-    fill_removed(levels, embedded.places(), embedded.level());
-    Ok(())
-}
-
 /// Resolves the levels of a paragraph without controls, whose places are one sequence.
 fn resolve_uniform(
     alloc: Global,
@@ -162,14 +143,17 @@ fn resolve_by_controls(
     buffers
         .embedded
         .embed(&mut buffers.explicit, level, classes)?;
-    resolve_levels(
+    let embedded = &buffers.embedded;
+    put_back(
         alloc,
         tables,
         points,
-        &buffers.embedded,
+        embedded,
         levels,
         &mut buffers.sequence,
-    )
+    )?;
+    fill_removed(levels, embedded.places(), embedded.level());
+    Ok(())
 }
 
 /// Whether all classes are plain.
