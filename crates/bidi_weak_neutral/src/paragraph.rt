@@ -168,39 +168,6 @@ fn are_plain(classes: &[Bidi]) -> bool
     plain
 }
 
-/// Resolves the levels of a paragraph of this level, in a list that holds this level throughout.
-fn resolve_paragraph(
-    alloc: Global,
-    tables: &Tables,
-    level: u8,
-    points: &[char],
-    classes: &[Bidi],
-    levels: &mut [u8],
-    buffers: &mut Buffers,
-) -> Result<(), Memory>
-    requires level { level ≤ 1 }
-    requires classes { classes.now ≡ map (bidi_of tables.now) points.now }
-    requires levels { levels.old ≡ replicate (length points.now) level }
-    ensures { OnOk result (levels.new ≡ resolved_levels tables.now points.now (embedding_at level classes.now)) }
-{
-    if level == 0 && are_plain(classes) {
-        return Ok(());
-    }
-    if has_controls(classes) {
-        return resolve_by_controls(alloc, tables, level, points, classes, levels, buffers);
-    }
-    resolve_uniform(
-        alloc,
-        tables,
-        level,
-        points,
-        classes,
-        levels,
-        &mut buffers.sequence.types,
-    )?;
-    Ok(())
-}
-
 /// Puts the levels of a paragraph of this level, 0 or 1, whose code points have these classes, into a list, in place of what it
 /// has. After `Memory` the list may have anything.
 /// Never inlined: as a part of its caller its passes would have fewer registers.
@@ -223,8 +190,14 @@ pub fn levels_into(
 {
     levels.clear();
     levels.resize(points.len(), level)?;
-    resolve_paragraph(alloc, tables, level, points, classes, levels, buffers)?;
-    Ok(())
+    if level == 0 && are_plain(classes) {
+        return Ok(());
+    }
+    if has_controls(classes) {
+        return resolve_by_controls(alloc, tables, level, points, classes, levels, buffers);
+    }
+    let types = &mut buffers.sequence.types;
+    resolve_uniform(alloc, tables, level, points, classes, levels, types)
 }
 
 /// The resolved level of each code point of a paragraph, 0 to 126 (UAX #9, 3.3.4 to 3.3.6).
