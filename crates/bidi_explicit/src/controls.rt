@@ -63,22 +63,6 @@ impl Matcher {
         }
     }
 
-    /// Moves to the last place, of whatever paragraph.
-    fn begin(&mut self)
-        ensures { self.new ≡ record { odd = false; pdis = [] } }
-    {
-        self.pdis.clear();
-        self.odd = false;
-    }
-
-    /// Moves over characters in a row, none of them a control: the first strong one counts.
-    #[inline]
-    fn pass_row(&mut self, row: &[Bidi])
-        ensures { self.new ≡ record self.old { odd = odd_before row.now self.old.odd } }
-    {
-        self.odd = odd_before(row, self.odd);
-    }
-
     /// Moves from the place after a character to its own place.
     fn pass(&mut self, place: usize, class: Bidi) -> Result<Control, Memory>
         ensures control { IfOk result (λ control. control ≡ control_by class self.old) }
@@ -197,11 +181,12 @@ pub(crate) fn controls_into(
 {
     controls.clear();
     controls.resize(classes.len(), Control::NONE)?;
-    matcher.begin();
+    matcher.pdis.clear();
+    matcher.odd = false;
     let mut end = classes.len();
     while end > 0 {
         let start = control_end(classes, end);
-        matcher.pass_row(&classes[start..end]);
+        matcher.odd = odd_before(&classes[start..end], matcher.odd);
         if start == 0 {
             return Ok(());
         }

@@ -1,9 +1,9 @@
 -- The pass begins after the last place and ends at the first.
-use Rattle.std.proofs.Common.{ℕ, suc, ◌≡◌, ◌∙◌, ◌-◌, ap, ap₂, sym, subst, List, [], ◌++◌, length, take, replicate, arith}
+use Rattle.std.proofs.Common.{ℕ, suc, ◌≡◌, ◌∙◌, ◌-◌, ap, ap₂, sym, subst, List, [], ◌++◌, length, take, drop, replicate, reverse, false, arith}
 use Rattle.bg_types.specs.declared.class.Bidi.TheVariants.{L}
 use Rattle.std.proofs.lemmas.List.{take_all}
 use Rattle.bidi_explicit.specs.declared.controls.Control.{Control}
-use Rattle.bidi_explicit.specs.Controls.{no_control}
+use Rattle.bidi_explicit.specs.Controls.{Behind, no_control, odd_before}
 use Rattle.bidi_explicit.proofs.Matching.{IsMatchedFrom, IsMatchedFrom-start, IsMatchedFrom-step, IsMatchedFrom-row, IsMatchedFrom-done}
 use Rattle.bidi_explicit.proofs.controls.controls_into.Goals as goal
 
@@ -18,7 +18,7 @@ loop-end-init c =
     ∙ ap (λ k. replicate k no_control) all in
     record {
       within = omega arith;
-      matched = IsMatchedFrom-start c.args.classes.now c.begin.new.self c.resize.new.self.items c.begin.ensures made;
+      matched = IsMatchedFrom-start c.args.classes.now _ c.resize.new.self.items (ap (λ ps. record { odd = false; pdis = reverse ps }) c.clear-2.ensures.items) made;
     }
 
 pub loop-end-preserved : goal.loop-end-preserved
@@ -30,10 +30,16 @@ loop-end-preserved c =
     let start = c.control_end-start.result in
     let row = IsMatchedFrom-row cs c.loop-end.matcher xs (c.loop-end.end - start) start c.loop-end.end (omega (arith, e.within)) h.within e.passed h.matched in
     let at : start ≡ suc (start - 1) = omega arith in
+    let opened =
+    subst (λ (b : Behind). IsMatchedFrom cs start (record b { odd = odd_before (take (c.loop-end.end - start) (drop start cs)) b.odd }) xs)
+    (sym c.matcher-in-loop-end.view_is) row in
+    let passed =
+    subst (λ odd. IsMatchedFrom cs start (record { odd = odd; pdis = reverse c.matcher-in-loop-end.inside.pdis.items }) xs)
+    (sym c.odd_before-matcher-inside.ensures) opened in
     record {
       within = omega (arith, e.within, h.within);
-      matched = IsMatchedFrom-step cs (start - 1) c.pass_row.new.self xs
-          (subst (λ n. IsMatchedFrom cs n c.pass_row.new.self xs) at (subst (λ b. IsMatchedFrom cs start b xs) (sym c.pass_row.ensures) row))
+      matched = IsMatchedFrom-step cs (start - 1) _ xs
+          (subst (λ n. IsMatchedFrom cs n (record { odd = c.odd_before-matcher-inside.result; pdis = reverse c.matcher-in-loop-end.inside.pdis.items }) xs) at passed)
           (omega (arith, e.within, h.within)) L c.in_ok-controls.field-0 c.pass.new.self c.in_ok-controls.ensures.control c.in_ok-controls.ensures.after;
     }
 
