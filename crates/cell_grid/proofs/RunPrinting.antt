@@ -15,7 +15,7 @@ use Rattle.reorder.specs.Mirrored.{mirrored_of}
 use Rattle.reorder.specs.VisualList.{is_odd}
 use Rattle.cell_grid.specs.declared.cluster_run.ClusterRun.{ClusterRun}
 use Rattle.cell_grid.specs.declared.entry.Entry.{Entry}
-use Rattle.cell_grid.specs.Print.{separates_segments, is_replaced, begins_with_tab, mirrored_text, slice_of, entry_text, text_over, own_text, run_slices, run_text}
+use Rattle.cell_grid.specs.Print.{separates_segments, begins_with_tab, mirrored_text, slice_of, entry_text, text_over, own_text, run_slices, run_text}
 use Rattle.cell_grid.specs.Printable.{IsSlice, IsPrintable}
 use Rattle.cell_grid.specs.Runs.{run_span, byte_count, span_after, cluster_count, cluster_from_left, run_entry, run_entries, run_columns, runs_columns, runs_entries, IsInReach}
 use Rattle.cell_grid.proofs.Alone.{none-after}
@@ -188,6 +188,10 @@ module _ (text : List ℕ) (r : ClusterRun) (h : IsPrintable text r) (odd : r.le
     slice-odd = h.slices (cluster_from_left r number) (from_left-within r number (omega arith))
 
 -- ---- a run whose clusters print what stands in the text
+
+-- a code point may be shown by others: it separates segments, or has a mirror (UAX #9, L4)
+abbrev pub is_replaced : TableValues → ℕ → Bool
+is_replaced tables c = separates_segments tables c || is_some (mirror_of tables c)
 
 begins-none : (tables : TableValues) (points : List ℕ) → list_any (separates_segments tables) points ≡ false → begins_with_tab tables points ≡ false
 begins-none tables [] none = refl

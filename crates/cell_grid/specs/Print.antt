@@ -1,9 +1,9 @@
 -- Print of a grid: the cells' texts, each row ended by one LF.
-use Rattle.std.specs.Prelude.{ℕ, ◌||◌, zero, suc, Bool, false, List, [], ◌∷◌, ◌++◌, map, length, replicate, slice_get, slice_range, Option, Some, None, is_some, encode_utf8_all, if◌then◌else◌}
+use Rattle.std.specs.Prelude.{ℕ, zero, suc, Bool, false, List, [], ◌∷◌, ◌++◌, map, length, replicate, slice_get, slice_range, Option, Some, None, encode_utf8_all, if◌then◌else◌}
 use Rattle.std.specs.List.{flat_map}
 use Rattle.std.specs.Option.{option_map_or}
 use Rattle.bg_types.specs.declared.class.Base.{Base}
-use Rattle.unicode_tables.specs.Tables.{TableValues, bidi_of, mirror_of}
+use Rattle.unicode_tables.specs.Tables.{TableValues, bidi_of}
 use Rattle.paragraphs.specs.declared.span.Span.{Span}
 use Rattle.paragraphs.specs.Text.{code_points}
 use Rattle.reorder.specs.Mirrored.{mirrored_of}
@@ -19,10 +19,6 @@ unfoldable pub use Rattle.unicode_tables.specs.Classes.{is_segment_separator}
 -- a code point separates segments, as a tab does
 abbrev pub separates_segments : TableValues → ℕ → Bool
 separates_segments tables c = is_segment_separator (bidi_of tables c)
-
--- a code point may be shown by others: it separates segments, or has a mirror (UAX #9, L4)
-abbrev pub is_replaced : TableValues → ℕ → Bool
-is_replaced tables c = separates_segments tables c || is_some (mirror_of tables c)
 
 -- the first of these code points separates segments
 abbrev pub begins_with_tab : TableValues → List ℕ → Bool

@@ -1,13 +1,13 @@
 //! The print of a grid.
 
 ghost use Rattle.std.specs.Prelude.{◌≡◌, ◌+◌, ◌*◌, ◌%◌, ◌<◌, ◌≤◌, ◌++◌, false, true, length, take, slice_range, is_err, IfOk, OnOk, OnErr};
-ghost use Rattle.std.specs.List.{All, flat_map, list_any};
+ghost use Rattle.std.specs.List.{All, flat_map};
 ghost use Rattle.std.specs.Io.KnownBytes.{Appends};
 ghost use Rattle.std.specs.Str.{IsCharBoundary};
 ghost use Rattle.bg_types.specs.Sink.{AppendsBeginning};
 ghost use Rattle.paragraphs.specs.Text.{code_points};
 ghost use Rattle.cell_grid.specs.Held.{AppendsAllBut};
-ghost use Rattle.cell_grid.specs.Print.{separates_segments, is_replaced, begins_with_tab, mirrored_text, own_text, run_slices, run_text, row_text, printed, printed_row};
+ghost use Rattle.cell_grid.specs.Print.{begins_with_tab, mirrored_text, own_text, run_slices, run_text, row_text, printed, printed_row};
 ghost use Rattle.cell_grid.specs.Printable.{IsSlice, AreSlices, IsPrintable};
 ghost use Rattle.cell_grid.specs.Runs.{run_span, byte_count, span_after, cluster_count, IsInReach};
 
@@ -192,8 +192,8 @@ fn prints_its_slice(tables: &Tables, text: &str, run: &ClusterRun) -> bool
     run.level % 2 == 0 && prints_its_clusters(tables, text, run)
 }
 
-/// Whether each cluster of a run is known to print what stands in the text: they have columns, no tab is among them, and at
-/// an odd level nothing that is mirrored.
+/// Whether each cluster of a run is known to print what stands in the text: they have columns, and the first bytes of their
+/// characters tell that no tab is among them, and at an odd level nothing that is mirrored.
 #[inline(always)]
 pub(crate) fn prints_its_clusters(tables: &Tables, text: &str, run: &ClusterRun) -> bool
     requires { IsPrintable text.now run.now }
@@ -206,51 +206,10 @@ pub(crate) fn prints_its_clusters(tables: &Tables, text: &str, run: &ClusterRun)
     let end = run.end_byte();
     let clusters = &text[first.first_byte as usize..end as usize];
     if run.level % 2 == 0 {
-        !has_segment_separator(tables, clusters)
+        tables.is_one_segment(clusters)
     } else {
-        !has_replaced(tables, clusters)
+        tables.is_shown_as_it_is(clusters)
     }
-}
-
-/// Whether a code point of a text separates segments, as a tab does.
-#[inline(always)]
-fn has_segment_separator(tables: &Tables, text: &str) -> bool
-    ensures { result ≡ list_any (separates_segments tables.now) (code_points text.now) }
-{
-    !tables.is_one_segment(text) && finds_segment_separator(tables, text)
-}
-
-/// The same, by a look-up for each. Never inlined: few texts need it.
-#[inline(never)]
-fn finds_segment_separator(tables: &Tables, text: &str) -> bool
-    ensures { result ≡ list_any (separates_segments tables.now) (code_points text.now) }
-{
-    text.chars().any(|c| is_segment_separator(tables.bidi(c)))
-}
-
-/// Whether a code point of a text is replaced at an odd level, as a tab or a bracket is.
-#[inline(always)]
-fn has_replaced(tables: &Tables, text: &str) -> bool
-    ensures { result ≡ list_any (is_replaced tables.now) (code_points text.now) }
-{
-    !tables.is_shown_as_it_is(text) && finds_replaced(tables, text)
-}
-
-/// The same, by a look-up for each. Never inlined: few texts need it.
-#[inline(never)]
-fn finds_replaced(tables: &Tables, text: &str) -> bool
-    ensures { result ≡ list_any (is_replaced tables.now) (code_points text.now) }
-{
-    text.chars().any(|c| is_replaced(tables, c))
-}
-
-/// Whether a character is replaced at an odd level.
-#[inline]
-fn is_replaced(tables: &Tables, c: char) -> bool
-    ensures { result ≡ is_replaced tables.now c }
-{
-    let word = tables.word(c);
-    is_segment_separator(word.bidi) || word.has_mirror
 }
 
 /// Puts what the first runs print behind what is held, as long as they are of odd levels, print what stands in the text and find
