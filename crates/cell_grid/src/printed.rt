@@ -176,20 +176,15 @@ fn slice_at(tables: &Tables, text: &str, runs: &[ClusterRun], start: usize) -> (
     for number in 0..runs.len() {
         let run = runs[number];
         let first = run.span.read();
-        if first.first_byte as usize != end || !prints_its_slice(tables, text, &run) {
+        if first.first_byte as usize != end
+            || run.level % 2 == 1
+            || !prints_its_clusters(tables, text, &run)
+        {
             return (number, end);
         }
         end = run.end_byte() as usize;
     }
     (runs.len(), end)
-}
-
-/// Whether a run is known to print what stands in the text: its clusters do, and stand in the order of the text.
-fn prints_its_slice(tables: &Tables, text: &str, run: &ClusterRun) -> bool
-    requires { IsPrintable text.now run.now }
-    ensures { result ≡ true → run_text tables.now text.now run.now ≡ slice_range text.now (run_span run.now).first_byte (span_after run.now.span.further (run_span run.now)).end_byte }
-{
-    run.level % 2 == 0 && prints_its_clusters(tables, text, run)
 }
 
 /// Whether each cluster of a run is known to print what stands in the text: they have columns, and the first bytes of their

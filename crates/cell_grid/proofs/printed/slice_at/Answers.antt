@@ -7,7 +7,7 @@ use Rattle.cell_grid.specs.KeptSpans.{no_span}
 use Rattle.cell_grid.specs.Print.{run_text}
 use Rattle.cell_grid.specs.Runs.{run_span, span_after}
 use Rattle.cell_grid.proofs.Printing.{stretch-on}
-use Rattle.cell_grid.proofs.RunPrinting.{last-slice, run-order}
+use Rattle.cell_grid.proofs.RunPrinting.{last-slice, run-order, slices-text}
 use Rattle.cell_grid.proofs.printed.slice_at.Goals as goal
 
 abbrev no_run : ClusterRun
@@ -24,7 +24,7 @@ loop-number-preserved c =
     let order = run-order text r h in
     let at = sym (ap (λ (s : Span). s.first_byte) c.read-first.ensures) ∙ c.if-first-end.false in
     let own : run_text c.args.tables.now text r ≡ slice_range text c.loop-number.end c.end_byte-end.result =
-    c.prints_its_slice.ensures c.if-not-prints_its_slice.false
+    c.prints_its_clusters.ensures c.if-not-prints_its_clusters.false ∙ slices-text text r h (omega (arith, c.if-run-eq1.false))
     ∙ ap (λ k. slice_range text k (span_after r.span.further (run_span r)).end_byte) at ∙ ap (slice_range text c.loop-number.end) (sym last) in
     record {
       order = omega (arith, c.loop-number.invariant.order);
