@@ -9,7 +9,7 @@ ghost use Rattle.paragraphs.specs.Text.{code_points};
 ghost use Rattle.cell_grid.specs.Held.{AppendsAllBut};
 ghost use Rattle.cell_grid.specs.Print.{begins_with_tab, mirrored_text, own_text, run_slices, run_text, row_text, printed, printed_row};
 ghost use Rattle.cell_grid.specs.Printable.{IsSlice, AreSlices, IsPrintable};
-ghost use Rattle.cell_grid.specs.Runs.{run_span, byte_count, span_after, cluster_count, IsInReach};
+ghost use Rattle.cell_grid.specs.Runs.{run_span, byte_count, cluster_count};
 
 use crate::cluster_run::ClusterRun;
 use crate::entry::Entry;
@@ -232,43 +232,25 @@ fn push_odd_run(tables: &Tables, text: &str, run: &ClusterRun, held: &mut Held) 
     ensures put { result ≡ true → held.new.bytes ≡ held.old.bytes ++ run_text tables.now text.now run.now }
     ensures same { result ≡ false → held.new.bytes ≡ held.old.bytes }
 {
-    if run.level % 2 == 0 || !prints_its_clusters(tables, text, run) || !has_room(run, held) {
+    if run.level % 2 == 0 || !prints_its_clusters(tables, text, run) {
         return false;
     }
-    push_backwards(text, *run, held);
+    let first = run.span.read();
+    let all = run.end_byte() - first.first_byte;
+    if all as usize > held.remaining_capacity() {
+        return false;
+    }
+    // To copy so many bytes as are known beforehand takes no call.
+    match first.end_byte - first.first_byte {
+        1 => push_sized(text, *run, 1, held),
+        2 => push_sized(text, *run, 2, held),
+        4 => push_sized(text, *run, 4, held),
+        bytes => push_sized(text, *run, bytes as usize, held),
+    }
     true
 }
 
-/// Whether the clusters of a run fit behind what is held.
-#[inline]
-fn has_room(run: &ClusterRun, held: &Held) -> bool
-    requires { IsInReach run.now }
-    ensures { result ≡ true → length held.now.bytes + cluster_count run.now * byte_count (run_span run.now) ≤ 256 }
-{
-    let first = run.span.read();
-    let bytes = run.end_byte() - first.first_byte;
-    bytes as usize <= held.remaining_capacity()
-}
-
-/// Puts the clusters of a run of an odd level behind what is held, from the last to the first.
-#[inline]
-fn push_backwards(text: &str, run: ClusterRun, held: &mut Held)
-    requires odd { run.level % 2 ≡ 1 }
-    requires run { IsPrintable text.now run }
-    requires room { length held.old.bytes + cluster_count run * byte_count (run_span run) ≤ 256 }
-    ensures { held.new.bytes ≡ held.old.bytes ++ run_slices text.now run }
-{
-    let first = run.span.read();
-    // To copy so many bytes as are known beforehand takes no call.
-    match first.end_byte - first.first_byte {
-        1 => push_sized(text, run, 1, held),
-        2 => push_sized(text, run, 2, held),
-        4 => push_sized(text, run, 4, held),
-        bytes => push_sized(text, run, bytes as usize, held),
-    }
-}
-
-/// The same, where each cluster has so many bytes.
+/// Puts the clusters of a run of an odd level, which have so many bytes each, behind what is held, from the last to the first.
 #[inline(always)]
 fn push_sized(text: &str, run: ClusterRun, bytes: usize, held: &mut Held)
     requires odd { run.level % 2 ≡ 1 }
