@@ -149,7 +149,7 @@ fn hold_first<W: Sink>(
         if count > 0 {
             return Ok(count);
         }
-        hold_odd_run(tables, text, first, held, sink)?;
+        hold_clusters(tables, text, first, held, sink)?;
         return Ok(1);
     }
     let span = first.span.read();
@@ -267,57 +267,6 @@ fn push_sized(text: &str, run: ClusterRun, bytes: usize, held: &mut Held)
         held.push_str(cluster);
         end = start;
     }
-}
-
-/// Holds what the cells of a run of an odd level print.
-fn hold_odd_run<W: Sink>(
-    tables: &Tables,
-    text: &str,
-    run: &ClusterRun,
-    held: &mut Held,
-    sink: &mut W,
-) -> Result<(), Device>
-    requires working { W.has_failed sink.old ≡ false }
-    requires odd { run.now.level % 2 ≡ 1 }
-    requires run { IsPrintable text.now run.now }
-    ensures ok { OnOk result (AppendsAllBut (W.written sink.old) (W.written sink.new) (held.old.bytes ++ run_text tables.now text.now run.now) held.new.bytes) }
-    ensures err { OnErr result (AppendsBeginning (W.written sink.old) (W.written sink.new) (held.old.bytes ++ run_text tables.now text.now run.now)) }
-    ensures failed { W.has_failed sink.new ≡ is_err result }
-{
-    if prints_its_clusters(tables, text, run) {
-        hold_each(text, *run, held, sink)
-    } else {
-        hold_clusters(tables, text, run, held, sink)
-    }
-}
-
-/// Holds the clusters of a run of an odd level as they stand in the text, one by one from the last to the first.
-#[inline(never)]
-fn hold_each<W: Sink>(
-    text: &str,
-    run: ClusterRun,
-    held: &mut Held,
-    sink: &mut W,
-) -> Result<(), Device>
-    requires working { W.has_failed sink.old ≡ false }
-    requires odd { run.level % 2 ≡ 1 }
-    requires run { IsPrintable text.now run }
-    ensures ok { OnOk result (AppendsAllBut (W.written sink.old) (W.written sink.new) (held.old.bytes ++ run_slices text.now run) held.new.bytes) }
-    ensures err { OnErr result (AppendsBeginning (W.written sink.old) (W.written sink.new) (held.old.bytes ++ run_slices text.now run)) }
-    ensures failed { W.has_failed sink.new ≡ is_err result }
-{
-    let first = run.span.read();
-    let bytes = first.end_byte - first.first_byte;
-    let last = run.cluster(run.span.further);
-    let count = run.count();
-    let mut end = last.end_byte;
-    for _ in 0..count {
-        let start = end - bytes;
-        let cluster = &text[start as usize..end as usize];
-        hold_text(cluster, held, sink)?;
-        end = start;
-    }
-    Ok(())
 }
 
 /// Holds what the cells of a run's entries print, one after the other. Never inlined: few runs need it, and its loops would

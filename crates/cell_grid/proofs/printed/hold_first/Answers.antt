@@ -49,8 +49,8 @@ returns-in_err-hold_text-clause-err g c =
     (ap (λ t. before ++ t) (pieces-parts f runs c.slice_at-count.result.0 ∙ ap (λ t. t ++ rest) (c.slice_at-count.ensures.text ∙ sym c.range.ensures.value))
     ∙ sym (append_assoc before c.range.result.now rest)))
 
-pub returns-in_err-hold_odd_run-clause-err : goal.returns-in_err-hold_odd_run-clause-err
-returns-in_err-hold_odd_run-clause-err g c =
+pub returns-in_err-hold_clusters-clause-err : goal.returns-in_err-hold_clusters-clause-err
+returns-in_err-hold_clusters-clause-err g c =
     let before = c.args.held.now.bytes in
     let f = run_text c.args.tables.now c.args.text.now in
     let runs = c.args.runs.now in
@@ -59,16 +59,16 @@ returns-in_err-hold_odd_run-clause-err g c =
     let none : c.push_odd_runs-count.result ≡ 0 = omega (arith, c.if-count-gt0.false) in
     let same = c.push_odd_runs-count.ensures.held ∙ ap (λ k. before ++ flat_map f (take k runs)) none ∙ append-nil before in
     on_err c.from_residual.result
-    (begins-longer _ _ (c.push_odd_runs-count.new.held.bytes ++ f r) rest _ c.in_err-hold_odd_run.ensures.err
+    (begins-longer _ _ (c.push_odd_runs-count.new.held.bytes ++ f r) rest _ c.in_err-hold_clusters.ensures.err
     (ap (λ t. before ++ t) (flat_map-split_at f runs 0 r no_run c.requires.some refl) ∙ sym (append_assoc before (f r) rest) ∙ ap (λ t. t ++ f r ++ rest) (sym same)))
 
-pub returns-in_err-hold_clusters-clause-err : goal.returns-in_err-hold_clusters-clause-err
-returns-in_err-hold_clusters-clause-err g c =
+pub returns-in_err-hold_clusters-2-clause-err : goal.returns-in_err-hold_clusters-2-clause-err
+returns-in_err-hold_clusters-2-clause-err g c =
     let before = c.args.held.now.bytes in
     let f = run_text c.args.tables.now c.args.text.now in
     let runs = c.args.runs.now in
     let r = get_or runs 0 no_run in
     let rest = flat_map f (drop 1 runs) in
-    on_err c.from_residual-in_err-hold_clusters.result
-    (begins-longer _ _ (before ++ f r) rest _ c.in_err-hold_clusters.ensures.err
+    on_err c.from_residual-in_err-hold_clusters-2.result
+    (begins-longer _ _ (before ++ f r) rest _ c.in_err-hold_clusters-2.ensures.err
     (ap (λ t. before ++ t) (flat_map-split_at f runs 0 r no_run c.requires.some refl) ∙ sym (append_assoc before (f r) rest)))
