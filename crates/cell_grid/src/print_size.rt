@@ -1,9 +1,9 @@
 //! How many bytes a row prints.
 
-ghost use Rattle.std.specs.Prelude.{◌≡◌, ◌+◌, ◌<◌, length, IfOk, Some};
+ghost use Rattle.std.specs.Prelude.{◌≡◌, ◌+◌, ◌<◌, length, IfOk};
 ghost use Rattle.std.specs.List.{All, flat_map};
 ghost use Rattle.paragraphs.specs.Text.{code_points};
-ghost use Rattle.cell_grid.specs.Print.{mirrored_text, entry_text, own_text, run_text, printed_row, row_text};
+ghost use Rattle.cell_grid.specs.Print.{mirrored_text, own_text, run_text, printed_row, row_text};
 ghost use Rattle.cell_grid.specs.Printable.{IsSlice, IsPrintable};
 
 use crate::cluster_run::ClusterRun;
@@ -89,14 +89,6 @@ pub(crate) fn cells_size(tables: &Tables, text: &str, entry: Entry) -> Result<us
     if entry.columns == 0 {
         return Ok(0);
     }
-    entry_size(tables, text, entry)
-}
-
-/// How many bytes an entry has as it is shown.
-fn entry_size(tables: &Tables, text: &str, entry: Entry) -> Result<usize, Memory>
-    requires { IsSlice text.now entry.span }
-    ensures { IfOk result (λ size. size ≡ length (entry_text tables.now text.now (Some entry))) }
-{
     let cluster = &text[entry.span.first_byte as usize..entry.span.end_byte as usize];
     if begins_with_tab(tables, cluster) {
         Ok(usize::from(entry.columns))
