@@ -1,7 +1,7 @@
 //! How many bytes a row prints.
 
 ghost use Rattle.std.specs.Prelude.{◌≡◌, ◌+◌, ◌<◌, length, IfOk};
-ghost use Rattle.std.specs.List.{All, flat_map};
+ghost use Rattle.std.specs.List.{All};
 ghost use Rattle.paragraphs.specs.Text.{code_points};
 ghost use Rattle.cell_grid.specs.Print.{mirrored_text, own_text, run_text, printed_row, row_text};
 ghost use Rattle.cell_grid.specs.Printable.{IsSlice, IsPrintable};
@@ -24,10 +24,13 @@ pub fn row_print_size(tables: &Tables, text: &str, row: &Row) -> Result<usize, M
     ensures { IfOk result (λ size. size ≡ length (row_text tables.now text.now row.now)) }
 {
     let (left, right) = row.blanks();
-    let blanks = usize::from(left) + usize::from(right);
-    let size = runs_size(tables, text, row.runs())?;
     // The LF is one more.
-    added(size, blanks + 1)
+    let mut size = usize::from(left) + usize::from(right) + 1;
+    for run in row.runs() {
+        let own = run_size(tables, text, run)?;
+        size = added(size, own)?;
+    }
+    Ok(size)
 }
 
 /// How many bytes `print_row_at` writes of the row with this number, counted from 0. Takes no memory. `Memory` where they are
@@ -41,19 +44,6 @@ pub fn row_print_size_at(grid: &Grid, number: usize) -> Result<usize, Memory>
     row_print_size(grid.tables(), grid.text(), &grid.rows()[number])
 }
 
-/// How many bytes the cells of runs print.
-fn runs_size(tables: &Tables, text: &str, runs: &[ClusterRun]) -> Result<usize, Memory>
-    requires { All (IsPrintable text.now) runs.now }
-    ensures { IfOk result (λ size. size ≡ length (flat_map (run_text tables.now text.now) runs.now)) }
-{
-    let mut size = 0usize;
-    for run in runs {
-        let own = run_size(tables, text, run)?;
-        size = added(size, own)?;
-    }
-    Ok(size)
-}
-
 /// How many bytes the cells of a run's entries print.
 fn run_size(tables: &Tables, text: &str, run: &ClusterRun) -> Result<usize, Memory>
     requires { IsPrintable text.now run.now }
@@ -64,14 +54,6 @@ fn run_size(tables: &Tables, text: &str, run: &ClusterRun) -> Result<usize, Memo
         let last = run.cluster(run.span.further);
         return Ok(last.end_byte as usize - first.first_byte as usize);
     }
-    clusters_size(tables, text, run)
-}
-
-/// The same, entry by entry.
-fn clusters_size(tables: &Tables, text: &str, run: &ClusterRun) -> Result<usize, Memory>
-    requires { IsPrintable text.now run.now }
-    ensures { IfOk result (λ size. size ≡ length (run_text tables.now text.now run.now)) }
-{
     let mut size = 0usize;
     for number in 0..run.count() {
         let entry = run.entry(0, number as u8);

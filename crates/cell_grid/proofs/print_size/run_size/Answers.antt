@@ -1,8 +1,12 @@
--- As many bytes as its slice of the text.
-use Rattle.std.proofs.Common.{length, ap, arith}
+-- As many bytes as its slice of the text, or one entry after the other.
+use Rattle.std.proofs.Common.{◌<◌, ◌≤◌, length, flat_map, ap, ◌∙◌, arith}
 use Rattle.paragraphs.specs.declared.span.Span.{Span}
-use Rattle.cell_grid.proofs.RunPrinting.{run-order}
-use Rattle.cell_grid.proofs.Sizes.{slices-size}
+use Rattle.cell_grid.specs.Print.{own_text}
+use Rattle.cell_grid.specs.Runs.{cluster_count, run_entries}
+use Rattle.cell_grid.proofs.RunEntries.{length-run_entries}
+use Rattle.cell_grid.proofs.RunPrinting.{run-order, entry-within, entry-read, entry-slice}
+use Rattle.cell_grid.proofs.Sizes.{pieces-size, slices-size}
+use Rattle.cell_grid.proofs.Steps.{take-whole}
 use Rattle.cell_grid.proofs.print_size.run_size.Goals as goal
 
 pub cluster-last-requires : goal.cluster-last-requires
@@ -22,3 +26,36 @@ returns-then-prints_its_clusters c =
     let first = ap (λ (s : Span). s.first_byte) c.read-first.ensures in
     let last = ap (λ (s : Span). s.end_byte) c.cluster-last.ensures in
     omega arith
+
+pub overflow_cast-number : goal.overflow_cast-number
+overflow_cast-number c = let most = c.count-number-end.ensures.most in record { fits = omega arith }
+
+pub entry-entry-requires : goal.entry-entry-requires
+entry-entry-requires c =
+    let count = c.count-number-end.ensures.number in
+    let fits = c.requires.columns in
+    record { within = omega arith; reach = c.requires.reach; fits = omega arith }
+
+pub cells_size-requires : goal.cells_size-requires
+cells_size-requires c =
+    let count = c.count-number-end.ensures.number in
+    entry-slice c.args.text.now c.args.run.now c.requires c.loop-number.number c.entry-entry.result (omega arith) c.entry-entry.ensures
+
+pub loop-number-preserved : goal.loop-number-preserved
+loop-number-preserved c =
+    let text = c.args.text.now in
+    let r = c.args.run.now in
+    let n = c.loop-number.number in
+    let e = c.entry-entry.result in
+    let count = c.count-number-end.ensures.number in
+    let lt : n < cluster_count r = omega arith in
+    let more = pieces-size (own_text c.args.tables.now text) (run_entries 0 r) n e e (entry-within text r n lt) (entry-read text r n e e lt c.entry-entry.ensures) in
+    omega (arith, c.in_ok-size.ensures, c.in_ok-own.ensures, c.loop-number.invariant, more)
+
+pub returns : goal.returns
+returns c =
+    let r = c.args.run.now in
+    let count = c.count-number-end.ensures.number in
+    let len = length-run_entries 0 r in
+    let all : length (run_entries 0 r) ≤ c.loop-number.number = omega arith in
+    c.loop-number.invariant ∙ ap (λ l. length (flat_map (own_text c.args.tables.now c.args.text.now) l)) (take-whole (run_entries 0 r) c.loop-number.number all)
