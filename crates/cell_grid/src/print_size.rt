@@ -1,6 +1,6 @@
 //! How many bytes a row prints.
 
-ghost use Rattle.std.specs.Prelude.{◌≡◌, ◌+◌, ◌<◌, length, IfOk};
+ghost use Rattle.std.specs.Prelude.{◌≡◌, ◌<◌, length, IfOk};
 ghost use Rattle.std.specs.List.{All};
 ghost use Rattle.paragraphs.specs.Text.{code_points};
 ghost use Rattle.cell_grid.specs.Print.{mirrored_text, own_text, run_text, printed_row, row_text};
@@ -28,7 +28,7 @@ pub fn row_print_size(tables: &Tables, text: &str, row: &Row) -> Result<usize, M
     let mut size = usize::from(left) + usize::from(right) + 1;
     for run in row.runs() {
         let own = run_size(tables, text, run)?;
-        size = added(size, own)?;
+        size = size.checked_add(own).ok_or(Memory)?;
     }
     Ok(size)
 }
@@ -58,7 +58,7 @@ fn run_size(tables: &Tables, text: &str, run: &ClusterRun) -> Result<usize, Memo
     for number in 0..run.count() {
         let entry = run.entry(0, number as u8);
         let own = cells_size(tables, text, entry)?;
-        size = added(size, own)?;
+        size = size.checked_add(own).ok_or(Memory)?;
     }
     Ok(size)
 }
@@ -89,14 +89,7 @@ fn mirrored_size(tables: &Tables, cluster: &str, level: u8) -> Result<usize, Mem
     let mut size = 0usize;
     for c in cluster.chars() {
         let shown = mirrored(tables, c, level);
-        size = added(size, shown.len_utf8())?;
+        size = size.checked_add(shown.len_utf8()).ok_or(Memory)?;
     }
     Ok(size)
-}
-
-/// A size with so many bytes more, or `Memory` where it can't be counted.
-fn added(size: usize, more: usize) -> Result<usize, Memory>
-    ensures { IfOk result (λ sum. sum ≡ size + more) }
-{
-    size.checked_add(more).ok_or(Memory)
 }

@@ -1,6 +1,6 @@
 //! What is shown is printed as the rows of the whole text are.
 
-ghost use Rattle.std.specs.Prelude.{◌≡◌, ◌+◌, ◌++◌, ◌<◌, ◌≤◌, ℕ, false, drop, length, is_err, IfOk, OnOk, OnErr};
+ghost use Rattle.std.specs.Prelude.{◌≡◌, ◌++◌, ◌<◌, ◌≤◌, ℕ, false, drop, length, is_err, IfOk, OnOk, OnErr};
 ghost use Rattle.std.specs.Io.KnownBytes.{Appends};
 ghost use Rattle.bg_types.specs.Sink.{AppendsBeginning};
 ghost use Rattle.unicode_tables.specs.Tables.{TableValues};
@@ -137,16 +137,9 @@ pub fn shown_size(
         let spot = spot_of(buffer, number, row);
         let own = text_there(buffer, spot);
         let more = row_print_size(tables, own.text, own.row)?;
-        size = added(size, more)?;
+        size = size.checked_add(more).ok_or(Memory)?;
         number = spot.number;
         row = spot.row + 1;
     }
     Ok(size)
-}
-
-/// A size with so many bytes more, or `Memory` where it can't be counted.
-fn added(size: usize, more: usize) -> Result<usize, Memory>
-    ensures { IfOk result (λ sum. sum ≡ size + more) }
-{
-    size.checked_add(more).ok_or(Memory)
 }

@@ -1,6 +1,6 @@
 //! A picture of a text.
 
-ghost use Rattle.std.specs.Prelude.{◌≡◌, ◌+◌, ◌++◌, ◌<◌, ◌≤◌, drop, length, IfOk, OnOk};
+ghost use Rattle.std.specs.Prelude.{◌≡◌, ◌++◌, ◌<◌, ◌≤◌, drop, length, IfOk, OnOk};
 ghost use Rattle.std.specs.Bool.{OnTrue, OnFalse};
 ghost use Rattle.std.specs.Str.{chars};
 ghost use Rattle.cell_grid.specs.Grids.{grid_of, IsDrawn};
@@ -155,7 +155,7 @@ impl Picture {
         let mut size = 0usize;
         for number in 0..self.rows.len() {
             let row = self.row_print_size(number)?;
-            size = added(size, row)?;
+            size = size.checked_add(row).ok_or(Memory)?;
         }
         Ok(size)
     }
@@ -298,11 +298,4 @@ impl Picture {
         self.rows = grid.into_rows();
         moved
     }
-}
-
-/// A size with so many bytes more, or `Memory` where it can't be counted.
-fn added(size: usize, more: usize) -> Result<usize, Memory>
-    ensures { IfOk result (λ sum. sum ≡ size + more) }
-{
-    size.checked_add(more).ok_or(Memory)
 }

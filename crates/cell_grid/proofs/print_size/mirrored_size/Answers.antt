@@ -15,7 +15,8 @@ returns-then-level-eq0 c = sym (ap length (even-text c.args.tables.now c.args.le
 pub loop-c-preserved : goal.loop-c-preserved
 loop-c-preserved c =
     let f : ℕ → ℕ = λ x. mirrored_of c.args.tables.now x c.args.level in
-    omega (arith, c.in_ok-size.ensures, c.loop-c.invariant, shown-size f c.loop-c.yielded c.in-Some.c, c.len_utf8.ensures, ap len_utf8 c.mirrored-shown.ensures)
+    let sum = rw c.in_ok-size.ensures.ok_part at c.checked_add.ensures in
+    omega (arith, sum.1, c.loop-c.invariant, shown-size f c.loop-c.yielded c.in-Some.c, c.len_utf8.ensures, ap len_utf8 c.mirrored-shown.ensures)
 
 pub returns : goal.returns
 returns c =

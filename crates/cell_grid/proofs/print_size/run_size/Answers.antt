@@ -50,7 +50,8 @@ loop-number-preserved c =
     let count = c.count-number-end.ensures.number in
     let lt : n < cluster_count r = omega arith in
     let more = pieces-size (own_text c.args.tables.now text) (run_entries 0 r) n e e (entry-within text r n lt) (entry-read text r n e e lt c.entry-entry.ensures) in
-    omega (arith, c.in_ok-size.ensures, c.in_ok-own.ensures, c.loop-number.invariant, more)
+    let sum = rw c.in_ok-size.ensures.ok_part at c.checked_add.ensures in
+    omega (arith, sum.1, c.in_ok-own.ensures, c.loop-number.invariant, more)
 
 pub returns : goal.returns
 returns c =

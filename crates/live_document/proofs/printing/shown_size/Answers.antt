@@ -41,7 +41,8 @@ loop-preserved c =
     let more = ap length (flat_map-take_next f ws i (get_or ws i a_row) a_row (omega (arith, size, c.loop-test.true)) refl) in
     let two = length-append (flat_map f (take i ws)) (f (get_or ws i a_row)) in
     let next : (s.skip + i) + 1 ≡ s.skip + (i + 1) = omega arith in
+    let sum = rw c.in_ok-size.ensures.ok_part at c.checked_add.ensures in
     record {
       same = further-same (rows_from kept spot.number) (rows_from kept s.first) spot.row (s.skip + i) 1 same ∙ ap (λ n. drop n (rows_from kept s.first)) next;
-      so_far = omega (arith, c.in_ok-size.ensures, c.in_ok-more.ensures, c.loop.invariant.so_far, is, more, two);
+      so_far = omega (arith, sum.1, c.in_ok-more.ensures, c.loop.invariant.so_far, is, more, two);
     }

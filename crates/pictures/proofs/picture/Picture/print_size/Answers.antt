@@ -11,7 +11,8 @@ loop-number-preserved c =
     let number = c.loop-number.number in
     let there : number < length grid.rows = omega (arith, c.loop-number-test.true, c.loop-number.auto.number-end, c.len-number-end.ensures, ap (λ (g : DrawnGrid). length g.rows) c.self.view_is) in
     let row = c.in_ok-row.ensures.size ∙ ap (λ g. length (printed_row g number)) c.loop-number.invariant.same in
+    let sum = rw c.in_ok-size.ensures.ok_part at c.checked_add.ensures in
     record {
       same = c.row_print_size.ensures.unchanged ∙ c.loop-number.invariant.same;
-      size = omega (arith, c.in_ok-size.ensures, row, c.loop-number.invariant.size, sized_next (row_text grid.tables grid.text) grid.rows number there);
+      size = omega (arith, sum.1, row, c.loop-number.invariant.size, sized_next (row_text grid.tables grid.text) grid.rows number there);
     }
