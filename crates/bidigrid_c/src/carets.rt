@@ -28,11 +28,11 @@ pub extern "C" fn bidigrid_caret_at(
     ensures same { picture.new.held ≡ picture.old.held }
     ensures empty { picture.old.held ≡ None → (result ≡ 101) × (caret.new ≡ no_caret) }
 {
-    let Some(mut held) = picture.take(alloc) else {
+    let Some(held) = picture.take(alloc) else {
         *caret = no_caret();
         return EMPTY_HANDLE;
     };
-    let answer = tell_caret(&mut held, place, caret);
+    let answer = tell_caret(&held, place, caret);
     picture.put(alloc, held);
     answer
 }
@@ -50,11 +50,11 @@ pub extern "C" fn bidigrid_caret_under(
     ensures same { picture.new.held ≡ picture.old.held }
     ensures empty { picture.old.held ≡ None → (result ≡ 101) × (caret.new ≡ no_caret) }
 {
-    let Some(mut held) = picture.take(alloc) else {
+    let Some(held) = picture.take(alloc) else {
         *caret = no_caret();
         return EMPTY_HANDLE;
     };
-    let answer = tell_caret_under(&mut held, row, column, caret);
+    let answer = tell_caret_under(&held, row, column, caret);
     picture.put(alloc, held);
     answer
 }
@@ -70,10 +70,10 @@ pub extern "C" fn bidigrid_caret_right(
     ensures same { picture.new.held ≡ picture.old.held }
     ensures empty { picture.old.held ≡ None → (result ≡ 101) × (caret.new ≡ caret.old) }
 {
-    let Some(mut held) = picture.take(alloc) else {
+    let Some(held) = picture.take(alloc) else {
         return EMPTY_HANDLE;
     };
-    let answer = tell_right(&mut held, caret);
+    let answer = tell_right(&held, caret);
     picture.put(alloc, held);
     answer
 }
@@ -89,10 +89,10 @@ pub extern "C" fn bidigrid_caret_left(
     ensures same { picture.new.held ≡ picture.old.held }
     ensures empty { picture.old.held ≡ None → (result ≡ 101) × (caret.new ≡ caret.old) }
 {
-    let Some(mut held) = picture.take(alloc) else {
+    let Some(held) = picture.take(alloc) else {
         return EMPTY_HANDLE;
     };
-    let answer = tell_left(&mut held, caret);
+    let answer = tell_left(&held, caret);
     picture.put(alloc, held);
     answer
 }
@@ -108,10 +108,10 @@ pub extern "C" fn bidigrid_caret_up(
     ensures same { picture.new.held ≡ picture.old.held }
     ensures empty { picture.old.held ≡ None → (result ≡ 101) × (caret.new ≡ caret.old) }
 {
-    let Some(mut held) = picture.take(alloc) else {
+    let Some(held) = picture.take(alloc) else {
         return EMPTY_HANDLE;
     };
-    let answer = tell_up(&mut held, caret);
+    let answer = tell_up(&held, caret);
     picture.put(alloc, held);
     answer
 }
@@ -127,10 +127,10 @@ pub extern "C" fn bidigrid_caret_down(
     ensures same { picture.new.held ≡ picture.old.held }
     ensures empty { picture.old.held ≡ None → (result ≡ 101) × (caret.new ≡ caret.old) }
 {
-    let Some(mut held) = picture.take(alloc) else {
+    let Some(held) = picture.take(alloc) else {
         return EMPTY_HANDLE;
     };
-    let answer = tell_down(&mut held, caret);
+    let answer = tell_down(&held, caret);
     picture.put(alloc, held);
     answer
 }

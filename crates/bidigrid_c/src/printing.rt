@@ -21,11 +21,11 @@ pub extern "C" fn bidigrid_picture_print(
     ensures same { picture.new.held ≡ picture.old.held }
     ensures empty { picture.old.held ≡ None → (result ≡ 101) × IsLeft out.old out.new size.new }
 {
-    let Some(mut held) = picture.take(alloc) else {
+    let Some(held) = picture.take(alloc) else {
         *size = 0;
         return EMPTY_HANDLE;
     };
-    let answer = tell_print(&mut held, out, size);
+    let answer = tell_print(&held, out, size);
     picture.put(alloc, held);
     answer
 }
@@ -43,11 +43,11 @@ pub extern "C" fn bidigrid_picture_row_print(
     ensures same { picture.new.held ≡ picture.old.held }
     ensures empty { picture.old.held ≡ None → (result ≡ 101) × IsLeft out.old out.new size.new }
 {
-    let Some(mut held) = picture.take(alloc) else {
+    let Some(held) = picture.take(alloc) else {
         *size = 0;
         return EMPTY_HANDLE;
     };
-    let answer = tell_row_print(&mut held, number, out, size);
+    let answer = tell_row_print(&held, number, out, size);
     picture.put(alloc, held);
     answer
 }
@@ -65,11 +65,11 @@ pub extern "C" fn bidigrid_picture_entry_sizes(
     ensures same { picture.new.held ≡ picture.old.held }
     ensures empty { picture.old.held ≡ None → (result ≡ 101) × IsLeft sizes.old sizes.new count.new }
 {
-    let Some(mut held) = picture.take(alloc) else {
+    let Some(held) = picture.take(alloc) else {
         *count = 0;
         return EMPTY_HANDLE;
     };
-    let answer = tell_entry_sizes(&mut held, row, sizes, count);
+    let answer = tell_entry_sizes(&held, row, sizes, count);
     picture.put(alloc, held);
     answer
 }

@@ -1,6 +1,6 @@
 //! Carets in pictures.
 
-ghost use Rattle.std.specs.Prelude.{◌≡◌, ◌<◌, ◌≤◌, length};
+ghost use Rattle.std.specs.Prelude.{◌<◌, ◌≤◌, length};
 ghost use Rattle.std.specs.Str.{chars};
 ghost use Rattle.caret.specs.Gaps.{IsCaretOf};
 ghost use Rattle.caret.specs.Moves.{caret_under, right_of, left_of, up_of, down_of};
@@ -13,9 +13,8 @@ use c_answers::{BAD_CARET, BAD_PLACE, BAD_ROW, OK};
 use pictures::Picture;
 
 /// Writes the caret at a place of the text.
-pub fn tell_caret(picture: &mut Picture, place: usize, caret: &mut CaretNumbers) -> u32
-    ensures written { AreNumbersWritten (place ≤ length (chars picture.old.text)) (caret_numbers (caret_at picture.old place)) no_caret 107 caret.new result }
-    ensures same { picture.new ≡ picture.old }
+pub fn tell_caret(picture: &Picture, place: usize, caret: &mut CaretNumbers) -> u32
+    ensures { AreNumbersWritten (place ≤ length (chars picture.now.text)) (caret_numbers (caret_at picture.now place)) no_caret 107 caret.new result }
 {
     if place > picture.len() {
         *caret = no_caret();
@@ -27,13 +26,12 @@ pub fn tell_caret(picture: &mut Picture, place: usize, caret: &mut CaretNumbers)
 
 /// Writes the caret where a mouse points: in a row at the last gap that is not right of a column.
 pub fn tell_caret_under(
-    picture: &mut Picture,
+    picture: &Picture,
     row: usize,
     column: usize,
     caret: &mut CaretNumbers,
 ) -> u32
-    ensures written { AreNumbersWritten (row < length picture.old.rows) (caret_numbers (caret_under picture.old.rows row column)) no_caret 108 caret.new result }
-    ensures same { picture.new ≡ picture.old }
+    ensures { AreNumbersWritten (row < length picture.now.rows) (caret_numbers (caret_under picture.now.rows row column)) no_caret 108 caret.new result }
 {
     if row >= picture.rows().len() {
         *caret = no_caret();
@@ -44,9 +42,8 @@ pub fn tell_caret_under(
 }
 
 /// Moves a caret one step to the right, as the eye sees it.
-pub fn tell_right(picture: &mut Picture, caret: &mut CaretNumbers) -> u32
-    ensures written { AreNumbersWritten (IsCaretOf picture.old.rows (caret_of caret.old)) (caret_numbers (right_of picture.old.rows (caret_of caret.old))) caret.old 110 caret.new result }
-    ensures same { picture.new ≡ picture.old }
+pub fn tell_right(picture: &Picture, caret: &mut CaretNumbers) -> u32
+    ensures { AreNumbersWritten (IsCaretOf picture.now.rows (caret_of caret.old)) (caret_numbers (right_of picture.now.rows (caret_of caret.old))) caret.old 110 caret.new result }
 {
     let from = caret_of(caret);
     if !picture.holds(from) {
@@ -57,9 +54,8 @@ pub fn tell_right(picture: &mut Picture, caret: &mut CaretNumbers) -> u32
 }
 
 /// Moves a caret one step to the left, as the eye sees it.
-pub fn tell_left(picture: &mut Picture, caret: &mut CaretNumbers) -> u32
-    ensures written { AreNumbersWritten (IsCaretOf picture.old.rows (caret_of caret.old)) (caret_numbers (left_of picture.old.rows (caret_of caret.old))) caret.old 110 caret.new result }
-    ensures same { picture.new ≡ picture.old }
+pub fn tell_left(picture: &Picture, caret: &mut CaretNumbers) -> u32
+    ensures { AreNumbersWritten (IsCaretOf picture.now.rows (caret_of caret.old)) (caret_numbers (left_of picture.now.rows (caret_of caret.old))) caret.old 110 caret.new result }
 {
     let from = caret_of(caret);
     if !picture.holds(from) {
@@ -70,9 +66,8 @@ pub fn tell_left(picture: &mut Picture, caret: &mut CaretNumbers) -> u32
 }
 
 /// Moves a caret one row up, as the eye sees it.
-pub fn tell_up(picture: &mut Picture, caret: &mut CaretNumbers) -> u32
-    ensures written { AreNumbersWritten (IsCaretOf picture.old.rows (caret_of caret.old)) (caret_numbers (up_of picture.old.rows (caret_of caret.old))) caret.old 110 caret.new result }
-    ensures same { picture.new ≡ picture.old }
+pub fn tell_up(picture: &Picture, caret: &mut CaretNumbers) -> u32
+    ensures { AreNumbersWritten (IsCaretOf picture.now.rows (caret_of caret.old)) (caret_numbers (up_of picture.now.rows (caret_of caret.old))) caret.old 110 caret.new result }
 {
     let from = caret_of(caret);
     if !picture.holds(from) {
@@ -83,9 +78,8 @@ pub fn tell_up(picture: &mut Picture, caret: &mut CaretNumbers) -> u32
 }
 
 /// Moves a caret one row down, as the eye sees it.
-pub fn tell_down(picture: &mut Picture, caret: &mut CaretNumbers) -> u32
-    ensures written { AreNumbersWritten (IsCaretOf picture.old.rows (caret_of caret.old)) (caret_numbers (down_of picture.old.rows (caret_of caret.old))) caret.old 110 caret.new result }
-    ensures same { picture.new ≡ picture.old }
+pub fn tell_down(picture: &Picture, caret: &mut CaretNumbers) -> u32
+    ensures { AreNumbersWritten (IsCaretOf picture.now.rows (caret_of caret.old)) (caret_numbers (down_of picture.now.rows (caret_of caret.old))) caret.old 110 caret.new result }
 {
     let from = caret_of(caret);
     if !picture.holds(from) {

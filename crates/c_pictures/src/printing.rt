@@ -11,9 +11,8 @@ use pictures::Picture;
 
 /// Writes a picture: the cells of each row in UTF-8, and a line feed after each.
 #[tactic(auto, using(crate::proofs::Sized::written_nowhere))]
-pub fn tell_print(picture: &mut Picture, out: &mut [u8], size: &mut usize) -> u32
-    ensures written { IsWritten (printed picture.old) out.old out.new size.new result }
-    ensures same { picture.new ≡ picture.old }
+pub fn tell_print(picture: &Picture, out: &mut [u8], size: &mut usize) -> u32
+    ensures { IsWritten (printed picture.now) out.old out.new size.new result }
 {
     *size = 0;
     if out.is_empty() {
@@ -47,9 +46,8 @@ pub fn tell_size(bytes: Result<usize, Memory>, size: &mut usize) -> u32
 
 /// Writes a row: its cells in UTF-8, and a line feed.
 #[tactic(auto, using(crate::proofs::Sized::written_nowhere))]
-pub fn tell_row_print(picture: &mut Picture, number: usize, out: &mut [u8], size: &mut usize) -> u32
-    ensures written { MatchOption (slice_get picture.old.rows number) ((result ≡ 108) × IsLeft out.old out.new size.new) (λ _. IsWritten (printed_row picture.old number) out.old out.new size.new result) }
-    ensures same { picture.new ≡ picture.old }
+pub fn tell_row_print(picture: &Picture, number: usize, out: &mut [u8], size: &mut usize) -> u32
+    ensures { MatchOption (slice_get picture.now.rows number) ((result ≡ 108) × IsLeft out.old out.new size.new) (λ _. IsWritten (printed_row picture.now number) out.old out.new size.new result) }
 {
     *size = 0;
     if number >= picture.rows().len() {
@@ -67,13 +65,12 @@ pub fn tell_row_print(picture: &mut Picture, number: usize, out: &mut [u8], size
 /// Writes of each entry of a row, from the left, how many bytes its cells have in the row's print.
 #[tactic(auto, using(crate::proofs::Sizes::sizes_counted))]
 pub fn tell_entry_sizes(
-    picture: &mut Picture,
+    picture: &Picture,
     number: usize,
     sizes: &mut [usize],
     count: &mut usize,
 ) -> u32
-    ensures written { MatchOption (slice_get picture.old.rows number) ((result ≡ 108) × IsLeft sizes.old sizes.new count.new) (λ _. AreSized (printed_sizes picture.old number) sizes.old sizes.new count.new result) }
-    ensures same { picture.new ≡ picture.old }
+    ensures { MatchOption (slice_get picture.now.rows number) ((result ≡ 108) × IsLeft sizes.old sizes.new count.new) (λ _. AreSized (printed_sizes picture.now number) sizes.old sizes.new count.new result) }
 {
     *count = 0;
     let Some(row) = picture.rows().get(number) else {

@@ -1,7 +1,7 @@
 -- Elements by their numbers.
-use Rattle.std.proofs.Common.{◌≡◌, ℕ, zero, suc, ◌+◌, ◌<◌, ◌≤◌, Bool, true, false, List, [], ◌∷◌, ◌++◌, length, replicate, sum_by, slice_get, get_or, Some, refl, sym, ap, subst, ◌∙◌, arith}
+use Rattle.std.proofs.Common.{◌≡◌, ℕ, zero, suc, ◌+◌, ◌<◌, ◌≤◌, Bool, true, false, List, [], ◌∷◌, ◌++◌, length, replicate, sum_by, slice_get, Some, refl, ap, subst, ◌∙◌, arith}
 use Rattle.std.proofs.lemmas.List.Sums.{sum_by-cons}
-use Rattle.std.proofs.lemmas.Option.{get_or_from_slice_get, slice_get_read, slice_get_within}
+use Rattle.std.proofs.lemmas.Option.{get_or_from_slice_get, slice_get_within}
 use Rattle.std.specs.List.{All}
 
 pub get-left : {X : Type 0} (xs ys : List X) (k : ℕ) → k < length xs → slice_get (xs ++ ys) k ≡ slice_get xs k
@@ -22,11 +22,6 @@ get-replicate (suc n) (suc k) x lt = get-replicate n k x (omega arith)
 -- what holds of each holds of this one
 pub All-at : {X : Type 0} (P : X → Type 0) (xs : List X) (k : ℕ) (x : X) → slice_get xs k ≡ Some x → All P xs → P x
 All-at P xs k x e h = subst P (get_or_from_slice_get xs k x x e) (h k x (slice_get_within xs k x e))
-
--- the element that is read is the one with the number
-pub read-there : {X : Type 0} (read xs : List X) (n : ℕ) (x : X) → read ≡ xs → n < length xs → x ≡ get_or read n x → slice_get xs n ≡ Some x
-read-there read xs n x same lt is =
-    subst (λ l. slice_get l n ≡ Some x) same (slice_get_read read (length read) n x refl (subst (λ l. n < length l) (sym same) lt) is)
 
 -- ---- how many pass a test
 

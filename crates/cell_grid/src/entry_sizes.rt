@@ -1,12 +1,10 @@
 //! How many bytes each entry of a row prints.
 
-ghost use Rattle.std.specs.Prelude.{◌≡◌, ◌++◌, ◌<◌, ◌≤◌, drop, length, OnOk};
+ghost use Rattle.std.specs.Prelude.{◌≡◌, ◌++◌, ◌≤◌, drop, length, OnOk};
 ghost use Rattle.std.specs.List.{All};
-ghost use Rattle.cell_grid.specs.Print.{own_sizes, printed_sizes};
+ghost use Rattle.cell_grid.specs.Print.{own_sizes};
 ghost use Rattle.cell_grid.specs.Printable.{IsSlice};
 
-use crate::grid::Grid;
-use crate::laws_below::laws_below;
 use crate::print_size::cells_size;
 use crate::row::Row;
 use bg_types::Memory;
@@ -32,16 +30,4 @@ pub fn row_entry_sizes(
         number += 1;
     }
     Ok(())
-}
-
-/// Answers how many bytes the cells of each entry of the row with this number, counted from 0, have in what `print_row_at`
-/// writes, as `row_entry_sizes` does.
-/// Cost: that of `row_entry_sizes`.
-pub fn row_entry_sizes_at(grid: &Grid, number: usize, sizes: &mut [usize]) -> Result<(), Memory>
-    requires row { number < length grid.now.rows }
-    requires room { length (printed_sizes grid.now number) ≤ length sizes.old }
-    ensures { OnOk result (sizes.new ≡ printed_sizes grid.now number ++ drop (length (printed_sizes grid.now number)) sizes.old) }
-{
-    laws_below();
-    row_entry_sizes(grid.tables(), grid.text(), &grid.rows()[number], sizes)
 }

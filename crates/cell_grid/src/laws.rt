@@ -119,3 +119,10 @@ pub fn paragraphs_print_alike()
 {
     laws_below();
 }
+
+/// The entries of a grid's rows are slices of its text.
+pub fn entries_are_slices()
+    ensures { (g : DrawnGrid) → IsDrawn g → All (AreSlices g.text) g.rows }
+{
+    laws_below();
+}

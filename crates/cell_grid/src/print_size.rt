@@ -1,15 +1,13 @@
 //! How many bytes a row prints.
 
-ghost use Rattle.std.specs.Prelude.{◌≡◌, ◌<◌, length, IfOk};
+ghost use Rattle.std.specs.Prelude.{◌≡◌, length, IfOk};
 ghost use Rattle.std.specs.List.{All};
 ghost use Rattle.paragraphs.specs.Text.{code_points};
-ghost use Rattle.cell_grid.specs.Print.{mirrored_text, own_text, run_text, printed_row, row_text};
+ghost use Rattle.cell_grid.specs.Print.{mirrored_text, own_text, run_text, row_text};
 ghost use Rattle.cell_grid.specs.Printable.{IsSlice, IsPrintable};
 
 use crate::cluster_run::ClusterRun;
 use crate::entry::Entry;
-use crate::grid::Grid;
-use crate::laws_below::laws_below;
 use crate::printed::{begins_with_tab, prints_its_clusters};
 use crate::row::Row;
 use bg_types::Memory;
@@ -31,17 +29,6 @@ pub fn row_print_size(tables: &Tables, text: &str, row: &Row) -> Result<usize, M
         size = size.checked_add(own).ok_or(Memory)?;
     }
     Ok(size)
-}
-
-/// How many bytes `print_row_at` writes of the row with this number, counted from 0. Takes no memory. `Memory` where they are
-/// more than can be counted.
-/// Cost: that of `row_print_size`.
-pub fn row_print_size_at(grid: &Grid, number: usize) -> Result<usize, Memory>
-    requires { number < length grid.now.rows }
-    ensures { IfOk result (λ size. size ≡ length (printed_row grid.now number)) }
-{
-    laws_below();
-    row_print_size(grid.tables(), grid.text(), &grid.rows()[number])
 }
 
 /// How many bytes the cells of a run's entries print.

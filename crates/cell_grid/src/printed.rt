@@ -7,7 +7,7 @@ ghost use Rattle.std.specs.Str.{IsCharBoundary};
 ghost use Rattle.bg_types.specs.Sink.{AppendsBeginning};
 ghost use Rattle.paragraphs.specs.Text.{code_points};
 ghost use Rattle.cell_grid.specs.Held.{AppendsAllBut};
-ghost use Rattle.cell_grid.specs.Print.{begins_with_tab, mirrored_text, own_text, run_slices, run_text, row_text, printed, printed_row};
+ghost use Rattle.cell_grid.specs.Print.{begins_with_tab, mirrored_text, own_text, run_slices, run_text, row_text, printed};
 ghost use Rattle.cell_grid.specs.Printable.{IsSlice, AreSlices, IsPrintable};
 ghost use Rattle.cell_grid.specs.Runs.{run_span, byte_count, cluster_count};
 
@@ -56,21 +56,6 @@ pub fn print_rows<W: Sink>(
         print_row(tables, text, row, sink)?;
     }
     Ok(())
-}
-
-/// Writes the row with this number, counted from 0, as `print` does. Takes no memory.
-///
-/// After `Device` a beginning of it is written.
-/// Cost: that of `print_row`.
-pub fn print_row_at<W: Sink>(grid: &Grid, number: usize, sink: &mut W) -> Result<(), Device>
-    requires row { number < length grid.now.rows }
-    requires working { W.has_failed sink.old ≡ false }
-    ensures ok { OnOk result (Appends (W.written sink.old) (W.written sink.new) (printed_row grid.now number)) }
-    ensures err { OnErr result (AppendsBeginning (W.written sink.old) (W.written sink.new) (printed_row grid.now number)) }
-    ensures failed { W.has_failed sink.new ≡ is_err result }
-{
-    laws_below();
-    print_row(grid.tables(), grid.text(), &grid.rows()[number], sink)
 }
 
 /// Writes a row of a text, whose entries are slices of it, as `print` does. Takes no memory.

@@ -20,7 +20,7 @@ fn shared_tables(alloc: Global) -> Result<SharedTables, Memory> {
 }
 
 /// Where a caret comes that goes right, down, left and up.
-fn places_of_walk(picture: &mut Picture) -> [usize; 4] {
+fn places_of_walk(picture: &Picture) -> [usize; 4] {
     let start: Caret = picture.at_place(0);
     let right = picture.right(start);
     let down = picture.down(right);
@@ -36,14 +36,14 @@ impl Row for Drawn {
             return Ok(false);
         }
         let tables = shared_tables(alloc)?;
-        let mut picture = Picture::draw(alloc, &tables, width, Base::Auto, text)?;
+        let picture = Picture::draw(alloc, &tables, width, Base::Auto, text)?;
         if picture.rows().is_empty() {
             return Ok(false);
         }
         let whole = picture.printed()?;
         let row = picture.printed_row(0)?;
         let size = picture.print_size()?;
-        let places = places_of_walk(&mut picture);
+        let places = places_of_walk(&picture);
         let same = whole.as_slice() == print.as_bytes() && row.as_slice() == first.as_bytes();
         let same = same && size == print.len();
         Ok(same && picture.text() == text && places == walk)

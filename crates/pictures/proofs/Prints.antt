@@ -1,8 +1,19 @@
--- How many bytes rows have, one after the other.
-use Rattle.std.proofs.Common.{◌≡◌, ◌<◌, ◌+◌, ℕ, zero, suc, List, [], ◌∷◌, length, take, slice_get, ap, ◌∙◌, add-one, length-append, arith}
-use Rattle.std.specs.List.{flat_map}
+-- The row with a number, and how many bytes rows have, one after the other.
+use Rattle.std.proofs.Common.{◌≡◌, ◌<◌, ◌+◌, ℕ, zero, suc, Some, List, [], ◌∷◌, length, get_or, take, slice_get, refl, sym, ap, subst, ◌∙◌, add-one, length-append, arith}
+use Rattle.std.proofs.lemmas.Option.{slice_get_read}
+use Rattle.std.specs.List.{All, flat_map}
 use Rattle.std.specs.Option.{option_map_or}
 use Rattle.cell_grid.specs.Rows.{DrawnRow}
+use Rattle.cell_grid.specs.Printable.{AreSlices}
+
+module _ (read rows : List DrawnRow) (n : ℕ) (r : DrawnRow) (same : read ≡ rows) (lt : n < length rows) (is : r ≡ get_or read n r) where
+  pub row-there : slice_get rows n ≡ Some r
+  row-there = slice_get_read rows (length rows) n r refl lt (is ∙ ap (λ l. get_or l n r) same)
+
+  -- its entries are slices, if those of all rows are
+  pub slices-there : (text own : List ℕ) → text ≡ own → All (AreSlices own) rows → AreSlices text r
+  slices-there text own same_text all =
+      subst (λ t. AreSlices t r) (sym same_text) (subst (AreSlices own) (sym (is ∙ ap (λ l. get_or l n r) same)) (all n r lt))
 
 sized_suc : (f : DrawnRow → List ℕ) (rows : List DrawnRow) (j : ℕ) → j < length rows
     → length (flat_map f (take (suc j) rows)) ≡ length (flat_map f (take j rows)) + length (option_map_or f (slice_get rows j) [])

@@ -11,20 +11,17 @@ ghost use Rattle.caret.specs.Places.{caret_at};
 
 use crate::shared_tables::SharedTables;
 use bg_types::{Base, Memory};
-use caret::{Caret, at_column, at_place, down, left, right, up};
-use cell_grid::laws::rows_follow;
-use cell_grid::{
-    Grid, InMemory, Row, draw, print, print_row_at, row_entry_sizes_at, row_print_size_at,
+use caret::laws::places_in_windows;
+use caret::{
+    Caret, at_column_among, at_place_among, down_among, left_among, right_among, up_among,
 };
+use cell_grid::laws::{entries_are_slices, first_places_rise, rows_follow};
+use cell_grid::{InMemory, Row, draw, print_row, print_rows, row_entry_sizes, row_print_size};
 use std::alloc::Global;
 use std::marker::Model;
-use std::mem;
 use unicode_tables::Tables;
 
 /// A text as it is drawn, with the tables and the text of its own. Clauses see it as its grid.
-///
-/// Its calls make the grid of the rows that it keeps, which takes no memory, and keep the rows again;
-/// so those that need a grid ask for a `&mut`, and change nothing.
 pub struct Picture {
     alloc: Global,
     tables: SharedTables,
@@ -131,16 +128,12 @@ impl Picture {
 
     /// Its print: the text of each cell, and one LF after each row.
     /// Cost: that of `print`, memory for its bytes.
-    pub fn printed(&mut self) -> Result<Vec<u8>, Memory>
-        ensures print { IfOk result (λ bytes. bytes.items ≡ printed self.old) }
-        ensures unchanged { self.new ≡ self.old }
+    pub fn printed(&self) -> Result<Vec<u8>, Memory>
+        ensures { IfOk result (λ bytes. bytes.items ≡ printed self.now) }
     {
+        entries_are_slices();
         let mut sink = InMemory::new(self.alloc);
-        let rows = mem::replace(&mut self.rows, Vec::new(self.alloc));
-        let grid = Grid::of(self.tables.tables(), self.text.as_str(), rows);
-        let outcome = print(&grid, &mut sink);
-        self.rows = grid.into_rows();
-        match outcome {
+        match print_rows(self.tables(), self.text(), self.rows(), &mut sink) {
             Ok(()) => Ok(sink.bytes),
             Err(_) => Err(Memory),
         }
@@ -148,12 +141,11 @@ impl Picture {
 
     /// How many bytes its print has. Takes no memory. `Memory` where they are more than can be counted.
     /// Cost: that of `row_print_size` for each row.
-    pub fn print_size(&mut self) -> Result<usize, Memory>
-        ensures size { IfOk result (λ size. size ≡ length (printed self.old)) }
-        ensures unchanged { self.new ≡ self.old }
+    pub fn print_size(&self) -> Result<usize, Memory>
+        ensures { IfOk result (λ size. size ≡ length (printed self.now)) }
     {
         let mut size = 0usize;
-        for number in 0..self.rows.len() {
+        for number in 0..self.rows().len() {
             let row = self.row_print_size(number)?;
             size = size.checked_add(row).ok_or(Memory)?;
         }
@@ -162,48 +154,36 @@ impl Picture {
 
     /// How many bytes the print of the row with this number has, counted from 0. Takes no memory. `Memory` where they are more
     /// than can be counted.
-    /// Cost: that of `row_print_size_at`.
-    pub fn row_print_size(&mut self, number: usize) -> Result<usize, Memory>
-        requires { number < length self.old.rows }
-        ensures size { IfOk result (λ size. size ≡ length (printed_row self.old number)) }
-        ensures unchanged { self.new ≡ self.old }
+    /// Cost: that of `cell_grid::row_print_size`.
+    pub fn row_print_size(&self, number: usize) -> Result<usize, Memory>
+        requires { number < length self.now.rows }
+        ensures { IfOk result (λ size. size ≡ length (printed_row self.now number)) }
     {
-        let rows = mem::replace(&mut self.rows, Vec::new(self.alloc));
-        let grid = Grid::of(self.tables.tables(), self.text.as_str(), rows);
-        let size = row_print_size_at(&grid, number);
-        self.rows = grid.into_rows();
-        size
+        entries_are_slices();
+        row_print_size(self.tables(), self.text(), &self.rows()[number])
     }
 
     /// Answers how many bytes the cells of each entry of that row have in its print, as `cell_grid::row_entry_sizes` does, at
     /// the front of a list with room for them.
-    /// Cost: that of `row_entry_sizes_at`.
-    pub fn row_entry_sizes(&mut self, number: usize, sizes: &mut [usize]) -> Result<(), Memory>
-        requires row { number < length self.old.rows }
-        requires room { length (printed_sizes self.old number) ≤ length sizes.old }
-        ensures sizes { OnOk result (sizes.new ≡ printed_sizes self.old number ++ drop (length (printed_sizes self.old number)) sizes.old) }
-        ensures unchanged { self.new ≡ self.old }
+    /// Cost: that of `cell_grid::row_entry_sizes`.
+    pub fn row_entry_sizes(&self, number: usize, sizes: &mut [usize]) -> Result<(), Memory>
+        requires row { number < length self.now.rows }
+        requires room { length (printed_sizes self.now number) ≤ length sizes.old }
+        ensures { OnOk result (sizes.new ≡ printed_sizes self.now number ++ drop (length (printed_sizes self.now number)) sizes.old) }
     {
-        let rows = mem::replace(&mut self.rows, Vec::new(self.alloc));
-        let grid = Grid::of(self.tables.tables(), self.text.as_str(), rows);
-        let outcome = row_entry_sizes_at(&grid, number, sizes);
-        self.rows = grid.into_rows();
-        outcome
+        entries_are_slices();
+        row_entry_sizes(self.tables(), self.text(), &self.rows()[number], sizes)
     }
 
     /// The print of the row with this number, counted from 0, with its LF.
-    /// Cost: that of `print_row_at`, memory for its bytes.
-    pub fn printed_row(&mut self, number: usize) -> Result<Vec<u8>, Memory>
-        requires { number < length self.old.rows }
-        ensures print { IfOk result (λ bytes. bytes.items ≡ printed_row self.old number) }
-        ensures unchanged { self.new ≡ self.old }
+    /// Cost: that of `print_row`, memory for its bytes.
+    pub fn printed_row(&self, number: usize) -> Result<Vec<u8>, Memory>
+        requires { number < length self.now.rows }
+        ensures { IfOk result (λ bytes. bytes.items ≡ printed_row self.now number) }
     {
+        entries_are_slices();
         let mut sink = InMemory::new(self.alloc);
-        let rows = mem::replace(&mut self.rows, Vec::new(self.alloc));
-        let grid = Grid::of(self.tables.tables(), self.text.as_str(), rows);
-        let outcome = print_row_at(&grid, number, &mut sink);
-        self.rows = grid.into_rows();
-        match outcome {
+        match print_row(self.tables(), self.text(), &self.rows()[number], &mut sink) {
             Ok(()) => Ok(sink.bytes),
             Err(_) => Err(Memory),
         }
@@ -211,91 +191,64 @@ impl Picture {
 
     /// The caret at a place of the text, as `caret::at_place` answers.
     /// Cost: that of `at_place`.
-    pub fn at_place(&mut self, place: usize) -> Caret
-        requires { place ≤ length (chars self.old.text) }
-        ensures caret { result ≡ caret_at self.old place }
-        ensures within { IsCaretOf self.old.rows result }
-        ensures unchanged { self.new ≡ self.old }
+    pub fn at_place(&self, place: usize) -> Caret
+        requires { place ≤ length (chars self.now.text) }
+        ensures caret { result ≡ caret_at self.now place }
+        ensures within { IsCaretOf self.now.rows result }
     {
-        let rows = mem::replace(&mut self.rows, Vec::new(self.alloc));
-        let grid = Grid::of(self.tables.tables(), self.text.as_str(), rows);
-        let caret = at_place(&grid, place);
-        self.rows = grid.into_rows();
-        caret
+        rows_follow();
+        first_places_rise();
+        places_in_windows();
+        at_place_among(self.rows(), place)
     }
 
     /// The caret where a mouse points, as `caret::at_column` answers.
     /// Cost: that of `at_column`.
-    pub fn at_column(&mut self, row: usize, column: usize) -> Caret
-        requires { row < length self.old.rows }
-        ensures caret { result ≡ caret_under self.old.rows row column }
-        ensures within { IsCaretOf self.old.rows result }
-        ensures unchanged { self.new ≡ self.old }
+    pub fn at_column(&self, row: usize, column: usize) -> Caret
+        requires { row < length self.now.rows }
+        ensures caret { result ≡ caret_under self.now.rows row column }
+        ensures within { IsCaretOf self.now.rows result }
     {
-        let rows = mem::replace(&mut self.rows, Vec::new(self.alloc));
-        let grid = Grid::of(self.tables.tables(), self.text.as_str(), rows);
-        let caret = at_column(&grid, row, column);
-        self.rows = grid.into_rows();
-        caret
+        at_column_among(self.rows(), row, column)
     }
 
     /// The caret one step to the right, as `caret::right` answers.
     /// Cost: that of `right`.
-    pub fn right(&mut self, caret: Caret) -> Caret
-        requires { IsCaretOf self.old.rows caret }
-        ensures caret { result ≡ right_of self.old.rows caret }
-        ensures within { IsCaretOf self.old.rows result }
-        ensures unchanged { self.new ≡ self.old }
+    pub fn right(&self, caret: Caret) -> Caret
+        requires { IsCaretOf self.now.rows caret }
+        ensures caret { result ≡ right_of self.now.rows caret }
+        ensures within { IsCaretOf self.now.rows result }
     {
-        let rows = mem::replace(&mut self.rows, Vec::new(self.alloc));
-        let grid = Grid::of(self.tables.tables(), self.text.as_str(), rows);
-        let moved = right(&grid, caret);
-        self.rows = grid.into_rows();
-        moved
+        right_among(self.rows(), caret)
     }
 
     /// The caret one step to the left, as `caret::left` answers.
     /// Cost: that of `left`.
-    pub fn left(&mut self, caret: Caret) -> Caret
-        requires { IsCaretOf self.old.rows caret }
-        ensures caret { result ≡ left_of self.old.rows caret }
-        ensures within { IsCaretOf self.old.rows result }
-        ensures unchanged { self.new ≡ self.old }
+    pub fn left(&self, caret: Caret) -> Caret
+        requires { IsCaretOf self.now.rows caret }
+        ensures caret { result ≡ left_of self.now.rows caret }
+        ensures within { IsCaretOf self.now.rows result }
     {
-        let rows = mem::replace(&mut self.rows, Vec::new(self.alloc));
-        let grid = Grid::of(self.tables.tables(), self.text.as_str(), rows);
-        let moved = left(&grid, caret);
-        self.rows = grid.into_rows();
-        moved
+        left_among(self.rows(), caret)
     }
 
     /// The caret one row higher, as `caret::up` answers.
     /// Cost: that of `up`.
-    pub fn up(&mut self, caret: Caret) -> Caret
-        requires { IsCaretOf self.old.rows caret }
-        ensures caret { result ≡ up_of self.old.rows caret }
-        ensures within { IsCaretOf self.old.rows result }
-        ensures unchanged { self.new ≡ self.old }
+    pub fn up(&self, caret: Caret) -> Caret
+        requires { IsCaretOf self.now.rows caret }
+        ensures caret { result ≡ up_of self.now.rows caret }
+        ensures within { IsCaretOf self.now.rows result }
     {
-        let rows = mem::replace(&mut self.rows, Vec::new(self.alloc));
-        let grid = Grid::of(self.tables.tables(), self.text.as_str(), rows);
-        let moved = up(&grid, caret);
-        self.rows = grid.into_rows();
-        moved
+        up_among(self.rows(), caret)
     }
 
     /// The caret one row lower, as `caret::down` answers.
     /// Cost: that of `down`.
-    pub fn down(&mut self, caret: Caret) -> Caret
-        requires { IsCaretOf self.old.rows caret }
-        ensures caret { result ≡ down_of self.old.rows caret }
-        ensures within { IsCaretOf self.old.rows result }
-        ensures unchanged { self.new ≡ self.old }
+    pub fn down(&self, caret: Caret) -> Caret
+        requires { IsCaretOf self.now.rows caret }
+        ensures caret { result ≡ down_of self.now.rows caret }
+        ensures within { IsCaretOf self.now.rows result }
     {
-        let rows = mem::replace(&mut self.rows, Vec::new(self.alloc));
-        let grid = Grid::of(self.tables.tables(), self.text.as_str(), rows);
-        let moved = down(&grid, caret);
-        self.rows = grid.into_rows();
-        moved
+        down_among(self.rows(), caret)
     }
 }

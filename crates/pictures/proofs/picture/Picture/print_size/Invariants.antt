@@ -5,7 +5,4 @@ use Rattle.cell_grid.specs.Print.{row_text}
 use Rattle.pictures.proofs.picture.Picture.print_size.Given as goal
 
 abbrev pub invariant-loop-number : goal.invariant-loop-number
-invariant-loop-number l = record {
-  same : l.self ≡ l.fn.self;
-  size : l.size ≡ length (flat_map (row_text l.fn.self.tables l.fn.self.text) (take l.number l.fn.self.rows));
-}
+invariant-loop-number l = l.size ≡ length (flat_map (row_text l.self.tables l.self.text) (take l.number l.self.rows))
