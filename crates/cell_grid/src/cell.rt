@@ -13,7 +13,7 @@ use std::marker::Model;
 
 /// A cell: blank, or the first (the head) or a further one (a tail) of the entry with this number,
 /// which counts the row's entries from the left, from 0.
-#[derive(Clone, Copy, Debug, PartialEq, Eq, Hash)]
+#[derive(Clone, Copy, Debug, PartialEq, Eq)]
 pub enum Cell {
     Blank,
     Head(u32),

@@ -13,7 +13,7 @@ use std::mem::size_of;
 /// Clusters that follow each other in the text and stand side by side in a row, alike in their level and in how many bytes,
 /// code points and columns they have. At an even level they stand from left to right in the order of the text, at an odd
 /// one in the opposite order.
-#[derive(Clone, Copy, Debug)]
+#[derive(Clone, Copy)]
 pub(crate) struct ClusterRun {
     /// Where the first of them in the text stands, and how many more there are.
     pub(crate) span: KeptSpan,

@@ -15,7 +15,7 @@ const LOW: u32 = 65_536;
 const SHARE: u32 = 4;
 
 /// A span whose numbers have at most 22 bits, and how many more of its size follow it, in 12 bytes.
-#[derive(Clone, Copy, Debug)]
+#[derive(Clone, Copy)]
 pub(crate) struct KeptSpan {
     /// The low bits of where it begins.
     byte: u16,

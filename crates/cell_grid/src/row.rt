@@ -28,7 +28,6 @@ use std::marker::Model;
 
 /// A row of a grid: a line with its entries from left to right. It stores them as runs of like clusters, and no cells: they
 /// follow from the width, the column where the entries begin and the entries.
-#[derive(Debug)]
 pub struct Row {
     width: u16,
     start: u16,
