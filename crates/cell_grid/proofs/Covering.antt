@@ -13,9 +13,6 @@ use Rattle.cell_grid.proofs.Lookups.{get-left, get-right, get-replicate}
 abbrev pub HasCell : List Cell → (k n : ℕ) → Type 0
 HasCell cells k n = (c : Cell) × (slice_get cells k ≡ Some c) × IsCellOf n c
 
-same_cell : (cells : List Cell) (k l m n : ℕ) → k ≡ l → m ≡ n → HasCell cells k m → HasCell cells l n
-same_cell cells k l m n e f h = subst (λ j. HasCell cells l j) f (subst (λ j. HasCell cells j m) e h)
-
 entry-has : (number n k : ℕ) → k < n → HasCell (entry_cells number n) k number
 entry-has number zero k lt = absurd (omega arith)
 entry-has number (suc n) zero lt = (Head number, refl, refl)

@@ -68,12 +68,6 @@ module _ (n : ℕ) (run : ShapeRun) (le : n ≤ run.count) where
   pub columns-cut : columns_of run ≡ columns_of (front n run) ++ columns_of (behind n run)
   columns-cut = ap (λ k. replicate k run.columns) count-is ∙ sym (replicate-append-replicate n (run.count - n) run.columns)
 
-  pub front-within : IsWithin run → IsWithin (front n run)
-  front-within h =
-      let b = ap (λ k. k * run.bytes) count-is in
-      let p = ap (λ k. k * run.points) count-is in
-      record { points = h.points; bytes = omega arith; places = omega arith }
-
   pub behind-within : IsWithin run → IsWithin (behind n run)
   behind-within h =
       let b = ap (λ k. k * run.bytes) count-is in

@@ -1,12 +1,10 @@
 -- What numbers from 0 on come to.
-use Rattle.std.proofs.Common.{◌≡◌, ℕ, zero, suc, ◌+◌, ◌<◌, ◌≤◌, List, [], ◌∷◌, ◌++◌, map, length, take, slice_get, Some, refl, sym, ap, subst, ◌∙◌, arith, take-append-drop}
-use Rattle.std.proofs.lemmas.List.{take_at, drop_at, set_split}
+use Rattle.std.proofs.Common.{◌≡◌, ℕ, zero, suc, ◌+◌, ◌<◌, ◌≤◌, List, ◌∷◌, ◌++◌, map, length, slice_get, Some, refl, ap, subst, ◌∙◌, arith}
+use Rattle.std.proofs.lemmas.List.{take_at, drop_at}
 use Rattle.std.proofs.lemmas.List.Elements.{All-take, All-drop}
 use Rattle.std.proofs.lemmas.List.FromFn.{length-map-range_with_len, get_or-map-range_with_len}
 use Rattle.std.proofs.lemmas.Option.{slice_get-get_or}
 use Rattle.std.specs.List.{All, range_with_len}
-use Rattle.std.specs.Prelude.{slice_index_or, slice_set}
-use Rattle.cell_grid.proofs.Steps.{drop-next, drop-none}
 
 -- two functions that agree at each of the numbers
 pub map-range-same : {X : Type 0} (f g : ℕ → X) (from n : ℕ) → ((k : ℕ) → from ≤ k → k < from + n → f k ≡ g k) → map f (range_with_len from n) ≡ map g (range_with_len from n)
@@ -36,17 +34,3 @@ module _ {X : Type 0} (P : X → Type 0) (xs ys : List X) (all : All P (xs ++ ys
 
   pub All-back : All P ys
   All-back = subst (All P) (drop_at xs ys (length xs) refl) (All-drop P (length xs) (xs ++ ys) all)
-
--- a list up to its last element, and that element or another
-module _ {X : Type 0} (xs : List X) (n : ℕ) (len : n + 1 ≡ length xs) where
-  pub split-last : (x d : X) → x ≡ slice_index_or xs n d → xs ≡ take n xs ++ x ∷ []
-  split-last x d is =
-      let lt : n < length xs = omega arith in
-      let le : length xs ≤ n + 1 = omega arith in
-      sym (take-append-drop n xs) ∙ ap (λ t. take n xs ++ t) (drop-next xs n x d lt is ∙ ap (λ t. x ∷ t) (drop-none xs (n + 1) le))
-
-  pub set-last : (y : X) → slice_set xs n y ≡ take n xs ++ y ∷ []
-  set-last y =
-      let lt : n < length xs = omega arith in
-      let le : length xs ≤ suc n = omega arith in
-      set_split xs n y lt ∙ ap (λ t. take n xs ++ y ∷ t) (drop-none xs (suc n) le)

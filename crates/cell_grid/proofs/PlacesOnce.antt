@@ -15,7 +15,7 @@ use Rattle.paragraphs.specs.declared.span.Span.{Span}
 use Rattle.cell_grid.specs.declared.entry.Entry.{Entry}
 use Rattle.cell_grid.specs.LawsBelow.{LawsBelow}
 use Rattle.cell_grid.specs.Spans.{span_at, spans_from, spans, extent, shifted_span}
-use Rattle.cell_grid.specs.Rows.{DrawnRow, row_of, shifted, shifted_entry}
+use Rattle.cell_grid.specs.Rows.{row_of, shifted, shifted_entry}
 use Rattle.cell_grid.specs.Outline.{IsLine}
 use Rattle.cell_grid.specs.Grids.{DrawnGrid, IsDrawn}
 use Rattle.cell_grid.specs.Laws.{HoldsPlacesOnce}
@@ -38,9 +38,6 @@ shifted-spans i j byte from (c ∷ cs) =
     (shifted-spans i j (byte + length c) (from + n) cs ∙ same_spans (byte + length c + i) (byte + i + length c) (from + n + j) (from + j + n) cs a b)
 
 module _ (below : LawsBelow) (tables : TableValues) (width para : ℕ) (text levels : List ℕ) (u : IsUtf8 text) (line : Line) (h : IsLine tables width text line) (i j : ℕ) where
-  row : DrawnRow
-  row = shifted i j (row_of tables width para text levels line)
-
   -- its entries are the line's clusters, where they stand
   permuted : (byte from : ℕ) (mid : List (List ℕ)) → slice_range (spans text) line.start line.end ≡ spans_from byte from mid
       → IsPermutation (spans_from (byte + i) (from + j) mid) (map (λ (e : Entry). e.span) (map (shifted_entry i j) (row_of tables width para text levels line).entries))

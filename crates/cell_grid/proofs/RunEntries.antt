@@ -58,11 +58,6 @@ module _ (column : ℕ) (runs : List ClusterRun) (i : ℕ) (r d : ClusterRun) (l
   pub rest-columns : runs_columns (drop i runs) ≡ run_columns r + runs_columns (drop (i + 1) runs)
   rest-columns = ap runs_columns from-next ∙ columns-first column r (drop (i + 1) runs)
 
--- the same of a list whose first run is read
-pub first-is : (runs : List ClusterRun) (r d : ClusterRun) → 0 < length runs → r ≡ get_or runs 0 d → runs ≡ r ∷ drop 1 runs
-first-is [] r d some is = absurd (omega arith)
-first-is (x ∷ later) r d some is = ap (λ y. y ∷ later) (sym is)
-
 pub first_further-is : (runs : List ClusterRun) (r d : ClusterRun) → 0 < length runs → r ≡ get_or runs 0 d → first_further runs ≡ r.span.further
 first_further-is [] r d some is = absurd (omega arith)
 first_further-is (x ∷ later) r d some is = ap (λ (y : ClusterRun). y.span.further) (sym is)

@@ -44,10 +44,6 @@ module _ (n : ℕ) (order : List ℕ) (p : IsPermutation (range_with_len 0 n) or
       ∙ ap sum (map-numbers columns 0)
 
 module _ (spans : List Span) (levels columns : List ℕ) where
-  pub length-entries_from : (column : ℕ) (order : List ℕ) → length (entries_from spans levels columns column order) ≡ length order
-  length-entries_from column [] = refl
-  length-entries_from column (k ∷ order) = ap suc (length-entries_from (column + get_or columns k 0) order)
-
   pub total-entries_from : (column : ℕ) (order : List ℕ) → sum_by (λ (e : Entry). e.columns) (entries_from spans levels columns column order) ≡ sum_by (λ k. get_or columns k 0) order
   total-entries_from column [] = refl
   total-entries_from column (k ∷ order) =

@@ -59,14 +59,6 @@ length-spans b p (c ∷ cs) = ap suc (length-spans (b + length c) (p + length (c
 pub same_spans : (b b' p p' : ℕ) (cs : List (List ℕ)) → b ≡ b' → p ≡ p' → spans_from b p cs ≡ spans_from b' p' cs
 same_spans b b' p p' cs e f = ap (λ n. spans_from n p cs) e ∙ ap (λ n. spans_from b' n cs) f
 
-pub spans-append : (b p : ℕ) (xs ys : List (List ℕ)) → spans_from b p (xs ++ ys) ≡ spans_from b p xs ++ spans_from (b + bytes xs) (p + points xs) ys
-spans-append b p [] ys = same_spans b (b + 0) p (p + 0) ys (omega arith) (omega arith)
-spans-append b p (x ∷ xs) ys =
-    ap (λ l. span_at b p x ∷ l)
-    (spans-append (b + length x) (p + length (code_points x)) xs ys
-    ∙ ap (λ l. spans_from (b + length x) (p + length (code_points x)) xs ++ l)
-    (same_spans (b + length x + bytes xs) (b + (length x + bytes xs)) (p + length (code_points x) + points xs) (p + (length (code_points x) + points xs)) ys (omega arith) (omega arith)))
-
 pub spans-drop : (k b p : ℕ) (cs : List (List ℕ)) → drop k (spans_from b p cs) ≡ spans_from (b + bytes (take k cs)) (p + points (take k cs)) (drop k cs)
 spans-drop zero b p cs = same_spans b (b + 0) p (p + 0) cs (omega arith) (omega arith)
 spans-drop (suc k) b p [] = refl
@@ -103,11 +95,6 @@ extent-spans b p [] some = absurd (omega arith)
 extent-spans b p (c ∷ cs) some =
     extent-fold b (b + length c) p (p + length (code_points c)) cs
     ∙ same_ends b (b + length c + bytes cs) (b + (length c + bytes cs)) p (p + length (code_points c) + points cs) (p + (length (code_points c) + points cs)) (omega arith) (omega arith)
-
--- from the start even where there is none
-pub extent-from_start : (cs : List (List ℕ)) → extent (spans_from 0 0 cs) ≡ span_of 0 (0 + bytes cs) 0 (0 + points cs)
-extent-from_start [] = refl
-extent-from_start (c ∷ cs) = extent-spans 0 0 (c ∷ cs) (omega arith)
 
 -- ---- the text that they have
 

@@ -1,5 +1,5 @@
 -- A stretch of rows that has a window.
-use Rattle.std.proofs.Common.{◌≡◌, ℕ, ◌+◌, ◌-◌, ◌<◌, ◌≤◌, ◌⊎◌, min, Bool, true, false, List, [], ◌∷◌, ◌++◌, length, get_or, take, drop, slice_range, All, Some, inl, inr, sym, ap, ◌∙◌, arith, length-append}
+use Rattle.std.proofs.Common.{◌≡◌, ℕ, ◌+◌, ◌-◌, ◌<◌, ◌≤◌, ◌⊎◌, min, true, false, List, [], ◌∷◌, ◌++◌, length, get_or, take, drop, slice_range, All, Some, inl, inr, sym, ap, ◌∙◌, arith, length-append}
 use Rattle.std.specs.Prelude.{nat_le, slice_get}
 use Rattle.std.specs.Option.{option_map_or}
 use Rattle.std.proofs.lemmas.List.{length-drop, take-append-le, drop-append-le, get_or_append_left, get_or-append-add}
@@ -44,9 +44,6 @@ module _ (xs ys zs : List DrawnRow) (p : ℕ) (begun : begins_by ys p 0 ≡ true
       some : (rows : List DrawnRow) → begins_by rows p 0 ≡ true → 0 < length rows
       some [] h = cc
       some (r ∷ rows) h = omega arith
-
-  begins : DrawnRow → Bool
-  begins r = nat_le r.first_place p
 
   a_row : DrawnRow
   a_row = record { first_place = 0; last_place = 0; para_level = 0; entries = []; cells = [] }

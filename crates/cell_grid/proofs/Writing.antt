@@ -1,5 +1,5 @@
 -- What is written piece by piece.
-use Rattle.std.proofs.Common.{◌≡◌, ℕ, zero, suc, ◌+◌, ◌-◌, ◌<◌, ◌≤◌, List, [], ◌∷◌, ◌++◌, length, take, drop, get_or, map, map-id, take-append-drop, replicate, encode_utf8, encode_utf8_all, Option, Result, Ok, Err, OnErr, OnOk, flat_map, refl, sym, ap, subst, ◌∙◌, arith, append_assoc, append-nil, inl, inr, ◌%◌, ◌==◌, chars}
+use Rattle.std.proofs.Common.{◌≡◌, ℕ, ◌+◌, ◌<◌, ◌≤◌, List, [], ◌∷◌, ◌++◌, length, take, drop, get_or, map, map-id, take-append-drop, encode_utf8, encode_utf8_all, Option, Result, Ok, Err, OnErr, OnOk, flat_map, refl, sym, ap, subst, ◌∙◌, arith, append_assoc, append-nil, inl, inr, ◌%◌, ◌==◌, chars}
 use Rattle.std.proofs.KnownBytes.{Appends-trans}
 use Rattle.std.proofs.Math.Seq.{take-append-add}
 use Rattle.std.proofs.lemmas.List.{take-append-le}
@@ -39,23 +39,6 @@ Begins-on old mid new done piece rest whole a b e =
     ap (take (length done + cut.0)) e ∙ take-append-add done (piece ++ rest) cut.0
     ∙ ap (λ t. done ++ t) (take-append-le cut.0 piece rest cut.1 ∙ sym cut.2) in
     (length done + cut.0, Appends-on old mid new done (take b.0 piece) (take (length done + cut.0) whole) a b.1 is)
-
--- ---- spaces
-
-replicate-push : (n x : ℕ) → replicate (suc n) x ≡ replicate n x ++ x ∷ []
-replicate-push zero x = refl
-replicate-push (suc n) x = ap (λ l. x ∷ l) (replicate-push n x)
-
--- one more
-pub replicate-on : (n x : ℕ) → replicate (n + 1) x ≡ replicate n x ++ x ∷ []
-replicate-on n x = let e : n + 1 ≡ suc n = omega arith in ap (λ k. replicate k x) e ∙ replicate-push n x
-
-pub replicate-split : (k n x : ℕ) → k < n → replicate n x ≡ replicate k x ++ (x ∷ [] ++ replicate (n - k - 1) x)
-replicate-split k zero x lt = absurd (omega arith)
-replicate-split zero (suc n) x lt = let e : n ≡ suc n - 0 - 1 = omega arith in ap (λ m. x ∷ replicate m x) e
-replicate-split (suc k) (suc n) x lt =
-    let e : n - k - 1 ≡ suc n - suc k - 1 = omega arith in
-    ap (λ l. x ∷ l) (replicate-split k n x (omega arith) ∙ ap (λ m. replicate k x ++ (x ∷ [] ++ replicate m x)) e)
 
 -- ---- code points as they are shown
 
