@@ -1,26 +1,19 @@
--- Entries stand side by side, at the row's edge.
-use Rattle.std.proofs.Common.{◌≡◌, ℕ, ◌+◌, ◌-◌, ◌≤◌, cond, List, map, length, get_or, sum, sum_by, slice_range, sym, ap, subst, ◌∙◌, arith}
-use Rattle.std.specs.List.{All}
+-- Entries stand side by side, within the row's edges.
+use Rattle.std.proofs.Common.{◌≡◌, ℕ, ◌+◌, ◌-◌, ◌≤◌, List, map, length, get_or, sum, sum_by, slice_range, sym, ap, subst, ◌∙◌, arith}
 use Rattle.unicode_tables.specs.Tables.{TableValues}
 use Rattle.paragraphs.specs.Clusters.{cluster_sizes}
-use Rattle.bidi_explicit.specs.Embedding.{paragraph_level, classes_of}
-use Rattle.bidi_weak_neutral.specs.Levels.{levels_of}
 use Rattle.line_break.specs.declared.line.Line.{Line}
 use Rattle.reorder.specs.VisualList.{visual_list}
 use Rattle.cell_grid.specs.LawsBelow.{LawsBelow}
 use Rattle.cell_grid.specs.Spans.{spans}
 use Rattle.cell_grid.specs.Hanging.{line_columns}
-use Rattle.cell_grid.specs.Rows.{start_column, levels_in_line, row_of, shifted, shifted_entry}
+use Rattle.cell_grid.specs.Rows.{start_column, levels_in_line, row_of, shifted_entry}
 use Rattle.cell_grid.specs.Outline.{own_columns, IsLine}
-use Rattle.cell_grid.specs.Grids.{DrawnGrid, IsDrawn}
 use Rattle.cell_grid.specs.Cells.{ColumnsFollow, total}
-use Rattle.cell_grid.specs.Laws.{StandsAtItsEdge}
 use Rattle.cell_grid.proofs.Sides.{sum-order, length-hung, sum-hung, start-fits, total-entries_from, same_follow, follow-entries, follow-shifted, total-shifted}
 use Rattle.cell_grid.proofs.Parts.{length-slice}
 use Rattle.cell_grid.proofs.LinesOf.{length-levels, hung-columns}
 use Rattle.cell_grid.proofs.Counting.{length-own_columns, length-sizes_of}
-use Rattle.cell_grid.proofs.Slicing.{paragraph-utf8}
-use Rattle.cell_grid.proofs.Drawn.{rows-each, each-row}
 
 -- the columns of a line that fits are within the width, one for each cluster
 pub line_columns-fit : (tables : TableValues) (width : ℕ) (text : List ℕ) (line : Line) → IsLine tables width text line → sum (line_columns tables width text line) ≤ width
@@ -74,25 +67,3 @@ module _ (below : LawsBelow) (tables : TableValues) (width para : ℕ) (text lev
       let wide = total-shifted i j (row_of tables width para text levels line).entries in
       let fits = start-fits width para (line_columns tables width text line) (line_columns-fit tables width text line h) in
       omega arith
-
-  pub row-edge : (i j : ℕ) → StandsAtItsEdge width (shifted i j (row_of tables width para text levels line))
-  row-edge i j =
-      let cols = line_columns tables width text line in
-      let all = row-total in
-      let wide = total-shifted i j (row_of tables width para text levels line).entries in
-      let fit = line_columns-fit tables width text line h in
-      record {
-        start = start_column width para cols;
-        follow = row-follow i j;
-        fits = row-within i j;
-        left = λ even. ap (λ b. cond b (width - sum cols) 0) even;
-        right = λ odd. let at : start_column width para cols ≡ width - sum cols = ap (λ b. cond b (width - sum cols) 0) odd in omega arith;
-      }
-
--- each row of a grid stands at its edge
-pub edge-rows : (below : LawsBelow) (g : DrawnGrid) (d : IsDrawn g) → All (StandsAtItsEdge d.width) g.rows
-edge-rows below g d =
-    subst (All (StandsAtItsEdge d.width)) (sym d.rows)
-    (each-row below g.tables d.width d.base g.text d.utf8 (StandsAtItsEdge d.width) (λ p h.
-    rows-each below g.tables d.width d.at_least d.base p.text (paragraph-utf8 g.text d.utf8 p h) (λ r. StandsAtItsEdge d.width (shifted p.first_byte p.first_place r)) (λ line l.
-    row-edge below g.tables d.width (paragraph_level d.base (classes_of g.tables p.text)) p.text (levels_of g.tables d.base p.text) line l p.first_byte p.first_place)))

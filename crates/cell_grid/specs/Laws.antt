@@ -1,15 +1,14 @@
 -- Words of the laws of rows and grids.
-use Rattle.std.specs.Prelude.{◌≡◌, ℕ, ◌+◌, ◌<◌, ◌≤◌, List, [], ◌∷◌, map, length, slice_get, Some, true, false}
+use Rattle.std.specs.Prelude.{◌≡◌, ℕ, ◌+◌, ◌<◌, ◌≤◌, List, [], ◌∷◌, map, length, slice_get, Some}
 use Rattle.std.specs.List.{All, flat_map}
 use Rattle.unicode_tables.specs.Tables.{TableValues}
 use Rattle.paragraphs.specs.Paragraphs.{Paragraph, paragraphs}
-use Rattle.reorder.specs.VisualList.{is_odd}
 use Rattle.paragraphs.specs.declared.span.Span.{Span}
 use Rattle.cell_grid.specs.declared.entry.Entry.{Entry}
 use Rattle.cell_grid.specs.declared.cell.Cell.{Cell}
 use Rattle.cell_grid.specs.declared.cell.Cell.TheVariants.{Blank, Head, Tail}
 use Rattle.cell_grid.specs.Spans.{spans, shifted_span}
-use Rattle.cell_grid.specs.Cells.{ColumnsFollow, total, IsSeenAt}
+use Rattle.cell_grid.specs.Cells.{IsSeenAt}
 use Rattle.cell_grid.specs.Rows.{DrawnRow}
 
 -- where the clusters of all paragraphs stand in a text, in order
@@ -43,14 +42,6 @@ pub record HoldsPlacesOnce (r : DrawnRow) : Type 0 where
   pub within : All (IsWithin r) r.entries
   pub each : (place : ℕ) → r.first_place ≤ place → place < r.last_place → (n : ℕ) × Holds r n place
   pub once : (place m n : ℕ) → Holds r m place → Holds r n place → m ≡ n
-
--- the entries follow one another; in a paragraph of even level the first stands at column 0, in one of odd level the last ends at the width
-pub record StandsAtItsEdge (width : ℕ) (r : DrawnRow) : Type 0 where
-  pub start : ℕ
-  pub follow : ColumnsFollow start r.entries (start + total r.entries)
-  pub fits : start + total r.entries ≤ width
-  pub left : is_odd r.para_level ≡ false → start ≡ 0
-  pub right : is_odd r.para_level ≡ true → start + total r.entries ≡ width
 
 -- a cell of entry n is its head or its tail
 abbrev pub IsCellOf : (n : ℕ) → Cell → Type 0

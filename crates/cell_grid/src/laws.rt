@@ -12,7 +12,7 @@ ghost use Rattle.cell_grid.specs.Rows.{DrawnRow, rows_of, shifted};
 ghost use Rattle.cell_grid.specs.Print.{own_sizes, printed_paragraph, row_text, shown};
 ghost use Rattle.cell_grid.specs.Printable.{AreSlices};
 ghost use Rattle.cell_grid.specs.Shifting.{MayShiftRow, shifted_paragraph};
-ghost use Rattle.cell_grid.specs.Laws.{text_spans, entry_spans, RowsFollow, HoldsPlacesOnce, StandsAtItsEdge, CoversCellsOnce};
+ghost use Rattle.cell_grid.specs.Laws.{text_spans, entry_spans, RowsFollow, HoldsPlacesOnce, CoversCellsOnce};
 ghost use Rattle.cell_grid.specs.Windows.{FirstPlacesRise, window_of, HasWindow};
 
 use crate::laws_below::laws_below;
@@ -27,14 +27,6 @@ pub fn clusters_once()
 /// Entries with columns cover their cells once and Blank the rest; an entry of no columns has no cell.
 pub fn cells_once()
     ensures { (g : DrawnGrid) (drawn : IsDrawn g) → All (CoversCellsOnce drawn.width) g.rows }
-{
-    laws_below();
-}
-
-/// Entries stand side by side, from the left in a paragraph of even level and up to the right in one
-/// of odd level.
-pub fn rows_at_their_edge()
-    ensures { (g : DrawnGrid) (drawn : IsDrawn g) → All (StandsAtItsEdge drawn.width) g.rows }
 {
     laws_below();
 }

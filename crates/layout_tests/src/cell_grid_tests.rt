@@ -428,7 +428,6 @@ fn a_failing_sink_keeps_a_beginning(rt: HostRuntime) {
 fn the_laws_are_called() {
     laws::clusters_once();
     laws::cells_once();
-    laws::rows_at_their_edge();
     laws::rows_follow();
     laws::places_once();
     laws::rows_may_shift();
