@@ -445,7 +445,4 @@ fn views_with_a_key_and_the_laws(rt: HostRuntime) {
     assert_rows(&rt, KEYED);
     laws::drawn_after_edits();
     laws::edits_cost_what_they_put_in();
-    laws::keys_compared();
-    laws::kept_while_there_is_room();
-    laws::uses_cost_what_was_not_used();
 }

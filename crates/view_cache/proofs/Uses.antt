@@ -1,7 +1,7 @@
 -- Which keys are kept after uses, and how many uses find nothing.
-use Rattle.std.proofs.Common.{◌≡◌, ◌≤◌, ◌<◌, ◌+◌, ◌++◌, ◌∷◌, [], ℕ, zero, suc, true, false, List, length, take, refl, sym, ap, subst, ◌∙◌, rules, arith, append-nil, append_assoc, length-append}
+use Rattle.std.proofs.Common.{◌≡◌, ◌≤◌, ◌<◌, ◌+◌, ◌++◌, ◌∷◌, [], ℕ, zero, suc, true, false, List, length, take, refl, sym, ap, subst, ◌∙◌, rules, arith, append_assoc, length-append}
 use Rattle.view_cache.specs.Keys.{ParagraphKey, same_key}
-use Rattle.view_cache.specs.Uses.{is_kept, without, used, all_used, laid_anew, count_others}
+use Rattle.view_cache.specs.Uses.{is_kept, without, used, all_used, laid_anew}
 use Rattle.bg_types.proofs.Interface.{two_cases}
 
 -- ---- uses one after the other
@@ -24,7 +24,7 @@ laid_anew-most room (x ∷ xs) kept =
 
 -- ---- equal keys
 
-pub same-equal : (a b : ParagraphKey) → same_key a b ≡ true → a ≡ b
+same-equal : (a b : ParagraphKey) → same_key a b ≡ true → a ≡ b
 unfolding same_key
 same-equal a b h = search rules
 
@@ -99,7 +99,7 @@ kept-take a (suc n) (k ∷ ks) h = two_cases (same_key a k)
     (λ t. kept-more a k ks (kept-take a n ks (sym (kept-later a k (take n ks) t) ∙ h)))
 
 -- a key is kept until as many uses follow it as there is room for
-pub kept-lately : (a : ParagraphKey) (room : ℕ) (uses ks : List ParagraphKey) → length uses < room → is_kept a (all_used room uses (used room a ks)) ≡ true
+kept-lately : (a : ParagraphKey) (room : ℕ) (uses ks : List ParagraphKey) → length uses < room → is_kept a (all_used room uses (used room a ks)) ≡ true
 kept-lately a zero uses ks lt = absurd (omega arith)
 kept-lately a (suc room) uses ks lt =
     kept-take a (1 + length uses) (all_used (suc room) uses (used (suc room) a ks))
@@ -143,44 +143,3 @@ edit-laid room before old new after kept was is =
     let last : laid_anew room after (all_used room new (all_used room before drawn)) ≡ 0 =
     ap (laid_anew room after) (sym turned) ∙ found-again room after (before ++ new) (all_used room (before ++ old) kept) (omega arith) in
     omega arith
-
--- ---- what was used is found, whatever was used between
-
-among-append : (a : ParagraphKey) (xs ys : List ParagraphKey) → is_kept a xs ≡ true → is_kept a (xs ++ ys) ≡ true
-among-append a [] ys h = cc
-among-append a (x ∷ xs) ys h = two_cases (same_key a x)
-    (λ t. kept-first a x (xs ++ ys) t)
-    (λ t. kept-more a x (xs ++ ys) (among-append a xs ys (sym (kept-later a x xs t) ∙ h)))
-
-kept-among : (a : ParagraphKey) (room : ℕ) (uses kept : List ParagraphKey) → length uses ≤ room → is_kept a uses ≡ true → is_kept a (all_used room uses kept) ≡ true
-kept-among a room [] kept fits h = cc
-kept-among a room (u ∷ uses) kept fits h = two_cases (same_key a u)
-    (λ t. subst (λ k. is_kept k (all_used room uses (used room u kept)) ≡ true) (sym (same-equal a u t)) (kept-lately u room uses kept (omega arith)))
-    (λ t. kept-among a room uses (used room u kept) (omega arith) (sym (kept-later a u uses t) ∙ h))
-
-module _ (room : ℕ) (earlier kept : List ParagraphKey) where
-  others-after : (done later : List ParagraphKey) → length (earlier ++ done) + length later ≤ room
-      → laid_anew room later (all_used room (earlier ++ done) kept) ≤ count_others earlier later
-  others-after done [] fits = omega arith
-  others-after done (a ∷ later) fits =
-      let next : all_used room (earlier ++ (done ++ a ∷ [])) kept ≡ used room a (all_used room (earlier ++ done) kept) =
-      ap (λ l. all_used room l kept) (sym (append_assoc earlier done (a ∷ []))) ∙ all_used-append room (earlier ++ done) (a ∷ []) kept in
-      let n = length-append earlier done in
-      let m = length-append earlier (done ++ a ∷ []) in
-      let o = length-append done (a ∷ []) in
-      let rest = others-after (done ++ a ∷ []) later (omega arith) in
-      let last : laid_anew room later (used room a (all_used room (earlier ++ done) kept)) ≡ laid_anew room later (all_used room (earlier ++ (done ++ a ∷ [])) kept) = ap (laid_anew room later) (sym next) in
-      two_cases (is_kept a earlier)
-      (λ t. let there = kept-among a room (earlier ++ done) kept (omega arith) (among-append a earlier done t) in rw (there, t, laid_anew, count_others) (omega arith))
-      (λ t. two_cases (is_kept a (all_used room (earlier ++ done) kept))
-      (λ u. rw (u, t, laid_anew, count_others) (omega arith))
-      (λ u. rw (u, t, laid_anew, count_others) (omega arith)))
-
-  -- a use lays out only what wasn't used before
-  pub others-laid : (later : List ParagraphKey) → length earlier + length later ≤ room → laid_anew room later (all_used room earlier kept) ≤ count_others earlier later
-  others-laid later fits =
-      let whole = append-nil earlier in
-      let n = ap length whole in
-      let most = others-after [] later (omega arith) in
-      let same : laid_anew room later (all_used room (earlier ++ []) kept) ≡ laid_anew room later (all_used room earlier kept) = ap (λ l. laid_anew room later (all_used room l kept)) whole in
-      omega arith

@@ -25,8 +25,3 @@ all_used room (key ∷ uses) kept = all_used room uses (used room key kept)
 abbrev pub laid_anew : (room : ℕ) → List ParagraphKey → List ParagraphKey → ℕ
 laid_anew room [] kept = 0
 laid_anew room (key ∷ uses) kept = (if is_kept key kept then 0 else 1) + laid_anew room uses (used room key kept)
-
--- how many of these keys aren't among those
-abbrev pub count_others : (those : List ParagraphKey) → List ParagraphKey → ℕ
-count_others those [] = 0
-count_others those (key ∷ keys) = (if is_kept key those then 0 else 1) + count_others those keys

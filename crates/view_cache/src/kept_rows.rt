@@ -1,6 +1,6 @@
 //! The rows of paragraphs, kept.
 
-ghost use Rattle.std.specs.Prelude.{◌≡◌, ◌≤◌, ℕ, [], length, IfOk, OnOk, OnErr};
+ghost use Rattle.std.specs.Prelude.{◌≡◌, ◌≤◌, [], length, IfOk, OnOk, OnErr};
 ghost use Rattle.lru.specs.LruCache.{lru_cache};
 ghost use Rattle.unicode_tables.specs.Tables.{TableValues};
 ghost use Rattle.std.specs.Rc.{rc_slice_items};

@@ -1,11 +1,9 @@
 //! Laws of the definitions: each function's contract is the law, and its body does nothing.
 
-ghost use Rattle.std.specs.Prelude.{◌≡◌, ℕ, ◌+◌, ◌<◌, ◌≤◌, ◌↔◌, true, List, length, Result, Ok, IfOk};
+ghost use Rattle.std.specs.Prelude.{◌≡◌, ℕ, ◌≤◌, List, length, Result, Ok, IfOk};
 ghost use Rattle.bg_types.specs.declared.class.Base.{Base};
 ghost use Rattle.bg_types.specs.declared.fault.Memory.{Memory};
 ghost use Rattle.cell_grid.specs.Grids.{DrawnGrid, grid_of};
-ghost use Rattle.view_cache.specs.Keys.{ParagraphKey, same_key};
-ghost use Rattle.view_cache.specs.Uses.{is_kept, used, all_used, laid_anew, count_others};
 ghost use Rattle.view_cache.specs.Drawings.{KeptView, IsDrawing};
 ghost use Rattle.view_cache.specs.Laws.{Edit, IsEdited, Replaces, paragraph_texts};
 
@@ -26,21 +24,4 @@ pub fn edits_cost_what_they_put_in()
         → Replaces first.tables text old later new
         → length (paragraph_texts first.tables text) ≤ first.room → length (paragraph_texts first.tables later) ≤ first.room
         → after.laid ≤ length new }
-{}
-
-/// Keys compare as unequal exactly where they differ.
-pub fn keys_compared()
-    ensures { (one other : ParagraphKey) → (same_key one other ≡ true) ↔ (one ≡ other) }
-{}
-
-/// A key that was used stays until as many uses follow it as there is room for.
-pub fn kept_while_there_is_room()
-    ensures { (room : ℕ) (key : ParagraphKey) (kept later : List ParagraphKey) → length later < room
-        → is_kept key (all_used room later (used room key kept)) ≡ true }
-{}
-
-/// Later uses lay out only what earlier ones didn't use, as long as there is room for both.
-pub fn uses_cost_what_was_not_used()
-    ensures { (room : ℕ) (earlier later kept : List ParagraphKey) → length earlier + length later ≤ room
-        → laid_anew room later (all_used room earlier kept) ≤ count_others earlier later }
 {}
