@@ -5,7 +5,6 @@
 use crate::rows::{Row, assert_rows};
 use bg_types::{Base, Memory};
 use cell_grid::{Grid, InMemory, Row as GridRow, draw, print};
-use paragraphs::split;
 use std::alloc::{AllocError, Global};
 use std::slice::from_ref;
 use ucd_files::Tables;
@@ -383,62 +382,21 @@ fn after_random_edits_a_view_draws_as_from_scratch(rt: HostRuntime) {
     assert_rows(&rt, &[Edits]);
 }
 
-/// A width, and for each paragraph of a text whether its use lays it out, and how many rows it has then.
-struct Uses(u16, &'static str, &'static [(bool, usize)]);
-
-impl Row for Uses {
-    fn comes_out(&self, alloc: Global, tables: &Tables) -> Result<bool, Memory> {
-        let Uses(width, text, wanted) = *self;
-        if width < 2 || width > 500 || text.len() > 4_000_000 {
-            return Ok(false);
-        }
-        let grid = draw(alloc, tables, width, Base::Left, text)?;
-        let count = grid.rows().len();
-        let rows = grid.into_rows();
-        let mut kept = KeptRows::keyed(alloc, 7, 2)?;
-        let paragraphs = split(alloc, tables, text)?;
-        let mut right = rows.len() == count && paragraphs.len() == wanted.len();
-        right = kept.newest().is_empty() && right;
-        for (para, use_) in paragraphs.iter().zip(wanted) {
-            if para.text().len() > 4_000_000 {
-                return Ok(false);
-            }
-            let laid = kept.keep(alloc, tables, width, Base::Left, para)?;
-            right = (laid, kept.newest().len()) == *use_ && right;
-        }
-        Ok(right)
-    }
-}
-
-const USES: &[Uses] = &[Uses(
-    3,
-    "ab cd\na\nab cd\nb\na\n",
-    &[
-        (true, 2),
-        (true, 1),
-        (false, 2),
-        (true, 1),
-        (true, 1),
-        (true, 1),
-    ],
-)];
-
-#[test]
-fn kept_rows_tell_what_they_lay_out(rt: HostRuntime) {
-    assert_rows(&rt, USES);
-}
-
-/// A draw from a view with a key.
+/// A draw from a view with a key and room for two paragraphs.
 struct Keyed(Draw<'static>);
 
 impl Row for Keyed {
     fn comes_out(&self, alloc: Global, tables: &Tables) -> Result<bool, Memory> {
-        let mut view = View::keyed(alloc, 0x2545_F491_4F6C_DD1D, tables, 3)?;
+        let mut view = View::keyed(alloc, 0x2545_F491_4F6C_DD1D, tables, 2)?;
         draws_all(alloc, tables, &mut view, from_ref(&self.0))
     }
 }
 
-const KEYED: &[Keyed] = &[Keyed((4, Base::Auto, "a\na", 2))];
+const KEYED: &[Keyed] = &[
+    Keyed((4, Base::Auto, "a\na", 2)),
+    // The third is found. So the fourth takes the place of the second, which is laid out again.
+    Keyed((3, Base::Left, "ab cd\na\nab cd\nb\na\n", 5)),
+];
 
 #[test]
 fn views_with_a_key_and_the_laws(rt: HostRuntime) {

@@ -23,11 +23,9 @@ use std::num::NonZeroUsize;
 use std::rc::RcSlice;
 use unicode_tables::Tables;
 
-/// The rows of the paragraphs that were used last, counted from each paragraph's start, by the
-/// paragraph's text, the width and the base, and what they print where a view was asked for that. It borrows
-/// no tables and no text: its owner hands them in, and what is kept stays right as long as the tables are always
-/// the same.
-pub struct KeptRows {
+/// The rows of the paragraphs that were used last, counted from each paragraph's start, and what they print where that was asked
+/// for, by the paragraph's text, the width and the base. They stay right as long as the tables are always the same.
+pub(crate) struct KeptRows {
     hash_key: u128,
     kept: LruCache<Key, Laid>,
 }
@@ -56,11 +54,8 @@ impl Drop for KeptRows {
 }
 
 impl KeptRows {
-    /// Room for the rows of this many paragraphs, 1 to 1,000,000, found by hashes that begin with this
-    /// key, so that it is hard to choose paragraphs that share a slot without knowing it. The hash is
-    /// not cryptographic, and no bound is proved.
-    /// Cost: O(1), memory for an empty table.
-    pub fn keyed(alloc: Global, key: u128, room: usize) -> Result<KeptRows, Memory>
+    /// Room for the rows of this many paragraphs, found by hashes that begin with this key.
+    pub(crate) fn keyed(alloc: Global, key: u128, room: usize) -> Result<KeptRows, Memory>
         requires some { 1 ≤ room }
         requires most { room ≤ 1_000_000 }
         ensures { IfOk result (λ kept. kept ≡ nothing_kept room key) }
@@ -72,34 +67,10 @@ impl KeptRows {
         })
     }
 
-    /// Uses the key of a paragraph of at most 4,000,000 bytes at a width in columns: where no rows are
-    /// kept under it, the paragraph is laid out and its rows are kept, in place of those used longest ago
-    /// where there is no more room. Returns whether it was laid out. `newest` has the rows then. After
-    /// `Memory` nothing has changed.
-    /// Cost: O(n) of the paragraph; memory for a copy of its text, and for its rows where it is laid out.
-    pub fn keep(
-        &mut self,
-        alloc: Global,
-        tables: &Tables,
-        width: u16,
-        base: Base,
-        para: &Para,
-    ) -> Result<bool, Memory>
-        requires at_least { 2 ≤ width }
-        requires at_most { width ≤ 500 }
-        requires size { length para.now.text ≤ 4_000_000 }
-        ensures use_ok { IfOk result (λ anew. IsUse (paragraph_key para.now.text width base) self.old anew self.new) }
-        ensures newest { OnOk result (IsNewest (paragraph_key para.now.text width base) self.new) }
-        // Rows that are all by these tables stay so.
-        ensures laid { AreLaid tables.now self.old → AreLaid tables.now self.new }
-        ensures err { OnErr result (self.new ≡ self.old) }
-    {
-        let mut lists = Lists::new(alloc);
-        self.keep_with(alloc, tables, width, base, para, &mut lists)
-    }
-
-    /// What `keep` does; a paragraph is laid out in these lists, whatever they have.
-    pub(crate) fn keep_with(
+    /// Uses the key of a paragraph: where no rows are kept under it, the paragraph is laid out in these lists, whatever they have,
+    /// and its rows are kept, in place of those used longest ago where there is no more room. Returns whether it was laid out.
+    /// After `Memory` nothing has changed.
+    pub(crate) fn keep(
         &mut self,
         alloc: Global,
         tables: &Tables,
@@ -113,6 +84,7 @@ impl KeptRows {
         requires size { length para.now.text ≤ 4_000_000 }
         ensures use_ok { IfOk result (λ anew. IsUse (paragraph_key para.now.text width base) self.old anew self.new) }
         ensures newest { OnOk result (IsNewest (paragraph_key para.now.text width base) self.new) }
+        // Rows that are all by these tables stay so.
         ensures laid { AreLaid tables.now self.old → AreLaid tables.now self.new }
         ensures err { OnErr result (self.new ≡ self.old) }
     {
@@ -127,7 +99,7 @@ impl KeptRows {
 
     /// The rows under the key that was used last, counted from the paragraph's start; none before the
     /// first use.
-    pub fn newest(&self) -> &[Row]
+    pub(crate) fn newest(&self) -> &[Row]
         ensures { (tables : TableValues) (key : ParagraphKey) → AreLaid tables self.now → IsNewest key self.now
             → result.now ≡ rows_of tables key.width key.base key.text }
     {

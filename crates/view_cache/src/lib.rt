@@ -8,6 +8,5 @@ pub mod laws;
 mod print;
 mod view;
 
-pub use kept_rows::KeptRows;
 pub use print::Print;
 pub use view::View;

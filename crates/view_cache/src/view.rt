@@ -176,7 +176,7 @@ impl<'a> View<'a> {
         rows_may_shift();
         let laid = self
             .kept
-            .keep_with(self.alloc, self.tables, width, base, para, lists)?;
+            .keep(self.alloc, self.tables, width, base, para, lists)?;
         push_shifted(self.alloc, self.kept.newest(), para, drawn)?;
         Ok(laid)
     }
@@ -254,7 +254,7 @@ impl<'a> View<'a> {
     {
         let laid = self
             .kept
-            .keep_with(self.alloc, self.tables, width, base, para, lists)?;
+            .keep(self.alloc, self.tables, width, base, para, lists)?;
         let print = self
             .kept
             .newest_print(self.alloc, self.tables, width, base, para)?;

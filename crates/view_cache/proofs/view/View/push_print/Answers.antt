@@ -22,8 +22,8 @@ returns-in_err-print-clause-err c =
     let key = paragraph_key c.args.para.now.text c.args.width c.args.base in
     let same = c.in_err-print.ensures in
     on_err c.from_residual-in_err-print.result
-    (inr (view-same inside.tables.now c.keep_with.new.self c.newest_print.new.self inside.laid same.room same.hash_key same.keys
-    ∙ view-used inside.tables.now inside.kept c.keep_with.new.self inside.laid c.args.self.now c.self.view_is key c.in_ok-laid.laid c.in_ok-laid.ensures.use_ok))
+    (inr (view-same inside.tables.now c.keep.new.self c.newest_print.new.self inside.laid same.room same.hash_key same.keys
+    ∙ view-used inside.tables.now inside.kept c.keep.new.self inside.laid c.args.self.now c.self.view_is key c.in_ok-laid.laid c.in_ok-laid.ensures.use_ok))
 
 pub returns-in_err-push-clause-err : goal.returns-in_err-push-clause-err
 returns-in_err-push-clause-err c =
@@ -31,8 +31,8 @@ returns-in_err-push-clause-err c =
     let key = paragraph_key c.args.para.now.text c.args.width c.args.base in
     let same = c.in_ok-print.ensures in
     on_err c.from_residual-in_err-push.result
-    (inr (view-same inside.tables.now c.keep_with.new.self c.newest_print.new.self inside.laid same.room same.hash_key same.keys
-    ∙ view-used inside.tables.now inside.kept c.keep_with.new.self inside.laid c.args.self.now c.self.view_is key c.in_ok-laid.laid c.in_ok-laid.ensures.use_ok))
+    (inr (view-same inside.tables.now c.keep.new.self c.newest_print.new.self inside.laid same.room same.hash_key same.keys
+    ∙ view-used inside.tables.now inside.kept c.keep.new.self inside.laid c.args.self.now c.self.view_is key c.in_ok-laid.laid c.in_ok-laid.ensures.use_ok))
 
 pub returns-clause-print : goal.returns-clause-print
 returns-clause-print c =
@@ -47,12 +47,12 @@ pub returns-clause-laid : goal.returns-clause-laid
 returns-clause-laid c =
     let inside = c.self.inside in
     let key = paragraph_key c.args.para.now.text c.args.width c.args.base in
-    anew-seen inside.tables.now inside.kept c.keep_with.new.self inside.laid c.args.self.now c.self.view_is key c.in_ok-laid.laid c.in_ok-laid.ensures.use_ok
+    anew-seen inside.tables.now inside.kept c.keep.new.self inside.laid c.args.self.now c.self.view_is key c.in_ok-laid.laid c.in_ok-laid.ensures.use_ok
 
 pub returns-clause-view : goal.returns-clause-view
 returns-clause-view c =
     let inside = c.self.inside in
     let key = paragraph_key c.args.para.now.text c.args.width c.args.base in
     let same = c.in_ok-print.ensures in
-    view-same inside.tables.now c.keep_with.new.self c.newest_print.new.self inside.laid same.room same.hash_key same.keys
-    ∙ view-used inside.tables.now inside.kept c.keep_with.new.self inside.laid c.args.self.now c.self.view_is key c.in_ok-laid.laid c.in_ok-laid.ensures.use_ok
+    view-same inside.tables.now c.keep.new.self c.newest_print.new.self inside.laid same.room same.hash_key same.keys
+    ∙ view-used inside.tables.now inside.kept c.keep.new.self inside.laid c.args.self.now c.self.view_is key c.in_ok-laid.laid c.in_ok-laid.ensures.use_ok

@@ -27,7 +27,7 @@ returns-in_err-push_shifted-clause-err c =
     let inside = c.self.inside in
     let key = paragraph_key c.args.para.now.text c.args.width c.args.base in
     on_err c.from_residual-in_err-push_shifted.result
-    (inr (view-used inside.tables.now inside.kept c.keep_with.new.self inside.laid c.args.self.now c.self.view_is key c.in_ok-laid.laid c.in_ok-laid.ensures.use_ok))
+    (inr (view-used inside.tables.now inside.kept c.keep.new.self inside.laid c.args.self.now c.self.view_is key c.in_ok-laid.laid c.in_ok-laid.ensures.use_ok))
 
 pub returns-clause-rows : goal.returns-clause-rows
 returns-clause-rows c =
@@ -42,10 +42,10 @@ pub returns-clause-laid : goal.returns-clause-laid
 returns-clause-laid c =
     let inside = c.self.inside in
     let key = paragraph_key c.args.para.now.text c.args.width c.args.base in
-    anew-seen inside.tables.now inside.kept c.keep_with.new.self inside.laid c.args.self.now c.self.view_is key c.in_ok-laid.laid c.in_ok-laid.ensures.use_ok
+    anew-seen inside.tables.now inside.kept c.keep.new.self inside.laid c.args.self.now c.self.view_is key c.in_ok-laid.laid c.in_ok-laid.ensures.use_ok
 
 pub returns-clause-view : goal.returns-clause-view
 returns-clause-view c =
     let inside = c.self.inside in
     let key = paragraph_key c.args.para.now.text c.args.width c.args.base in
-    view-used inside.tables.now inside.kept c.keep_with.new.self inside.laid c.args.self.now c.self.view_is key c.in_ok-laid.laid c.in_ok-laid.ensures.use_ok
+    view-used inside.tables.now inside.kept c.keep.new.self inside.laid c.args.self.now c.self.view_is key c.in_ok-laid.laid c.in_ok-laid.ensures.use_ok

@@ -5,7 +5,7 @@ use Rattle.view_cache.specs.Keys.{said, paragraph_key}
 use Rattle.view_cache.specs.KeptParagraphs.{AreLaid}
 use Rattle.view_cache.specs.Kept.{laid_said, IsKept}
 use Rattle.view_cache.proofs.Kept.{kept_of, laid-right, used-promoted, used-missed, unmoved, use-done, newest-done, laid-done}
-use Rattle.view_cache.proofs.kept_rows.KeptRows.keep_with.Goals as goal
+use Rattle.view_cache.proofs.kept_rows.KeptRows.keep.Goals as goal
 
 pub invariant_of-self : goal.invariant_of-self
 invariant_of-self c =
