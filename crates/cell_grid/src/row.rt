@@ -1,6 +1,6 @@
 //! A row of a grid.
 
-ghost use Rattle.std.specs.Prelude.{◌≡◌, ℕ, ◌^◌, ◌++◌, ◌<◌, ◌≤◌, length, replicate, slice_get, IfOk, Some};
+ghost use Rattle.std.specs.Prelude.{◌≡◌, ℕ, ◌^◌, ◌++◌, ◌<◌, ◌≤◌, length, replicate, slice_get, IfOk};
 ghost use Rattle.std.specs.List.{All};
 ghost use Rattle.cell_grid.specs.declared.cell.Cell.TheVariants.{Blank};
 ghost use Rattle.cell_grid.specs.Cells.{entries_cells};
@@ -264,18 +264,10 @@ impl Row {
     {
         let width = usize::from(self.width());
         if column < width {
-            Some(self.cell_at(column))
+            Some(cell_in(&self.runs, self.start, column))
         } else {
             None
         }
-    }
-
-    /// The cell in a column of the row.
-    pub(crate) fn cell_at(&self, column: usize) -> Cell
-        requires { column < length self.now.cells }
-        ensures { slice_get self.now.cells column ≡ Some result }
-    {
-        cell_in(&self.runs, self.start, column)
     }
 
     /// How many blanks stand left of the entries' cells, and how many right of them.
