@@ -1,25 +1,10 @@
-//! Spans moved later in the text, and spans of one size in a row.
+//! Spans of one size in a row.
 
 ghost use Rattle.std.specs.Prelude.{◌≡◌, ◌*◌};
 ghost use Rattle.cell_grid.specs.Runs.{byte_count, point_count, span_after};
 ghost use Rattle.cell_grid.specs.Shifting.{StaysInReach};
-ghost use Rattle.cell_grid.specs.Spans.{shifted_span};
 
 use paragraphs::Span;
-
-/// The span this many bytes and places later.
-#[inline]
-pub(crate) fn shifted(span: Span, bytes: u32, places: u32) -> Span
-    requires { StaysInReach bytes places span }
-    ensures { result ≡ shifted_span bytes places span }
-{
-    Span {
-        first_byte: span.first_byte + bytes,
-        end_byte: span.end_byte + bytes,
-        first_place: span.first_place + places,
-        end_place: span.end_place + places,
-    }
-}
 
 /// The span behind so many spans like this one, of which it is the first.
 #[inline]
@@ -31,5 +16,10 @@ pub(crate) fn span_after(count: u8, span: Span) -> Span
     let points = span.end_place.saturating_sub(span.first_place);
     let bytes = u32::from(count) * size;
     let places = u32::from(count) * points;
-    shifted(span, bytes, places)
+    Span {
+        first_byte: span.first_byte + bytes,
+        end_byte: span.end_byte + bytes,
+        first_place: span.first_place + places,
+        end_place: span.end_place + places,
+    }
 }

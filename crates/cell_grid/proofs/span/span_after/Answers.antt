@@ -15,21 +15,10 @@ overflow_mul-places c =
     let fits = c.requires.end_place in
     omega arith
 
-pub shifted-requires : goal.shifted-requires
-shifted-requires c =
-    let bytes = ap (λ n. n * c.saturating_sub-size.result) c.from.ensures ∙ ap (λ n. c.args.count * n) c.saturating_sub-size.ensures in
-    let places = ap (λ n. n * c.saturating_sub-points.result) c.from-2.ensures ∙ ap (λ n. c.args.count * n) c.saturating_sub-points.ensures in
-    let first_byte = c.requires.first_byte in
-    let end_byte = c.requires.end_byte in
-    let first_place = c.requires.first_place in
-    let end_place = c.requires.end_place in
-    record { first_byte = omega arith; end_byte = omega arith; first_place = omega arith; end_place = omega arith }
-
 pub returns : goal.returns
 returns c =
     let span = c.args.span in
     let bytes = ap (λ n. n * c.saturating_sub-size.result) c.from.ensures ∙ ap (λ n. c.args.count * n) c.saturating_sub-size.ensures in
     let places = ap (λ n. n * c.saturating_sub-points.result) c.from-2.ensures ∙ ap (λ n. c.args.count * n) c.saturating_sub-points.ensures in
-    c.shifted.ensures
-    ∙ ap (λ n. shifted_span n (c.from-2.result * c.saturating_sub-points.result) span) bytes
+    ap (λ n. shifted_span n (c.from-2.result * c.saturating_sub-points.result) span) bytes
     ∙ ap (λ n. shifted_span (c.args.count * (span.end_byte - span.first_byte)) n span) places
