@@ -1,6 +1,6 @@
 //! The rows of a paragraph.
 
-ghost use Rattle.std.specs.Prelude.{◌≡◌, ℕ, ◌+◌, ◌≤◌, length, map, slice_range, IfOk, OnOk};
+ghost use Rattle.std.specs.Prelude.{◌≡◌, ℕ, ◌+◌, ◌≤◌, length, map, IfOk, OnOk};
 ghost use Rattle.std.specs.List.{All};
 ghost use Rattle.std.specs.Str.{IsUtf8};
 ghost use Rattle.unicode_tables.specs.declared.word.Word.{Word};
@@ -11,7 +11,6 @@ ghost use Rattle.line_break.specs.LineClusters.{line_clusters};
 ghost use Rattle.line_break.specs.Lines.{lines};
 ghost use Rattle.line_break.specs.Opportunities.{opportunities_of};
 ghost use Rattle.line_break.specs.Runs.{AllHaveSome};
-ghost use Rattle.reorder.specs.LineLevels.{levels_after_l1};
 ghost use Rattle.cell_grid.specs.Outline.{IsLine};
 ghost use Rattle.cell_grid.specs.Parts.{IsWithin, left_of, AreFrom};
 ghost use Rattle.cell_grid.specs.Rows.{row_of, rows_of};
@@ -27,7 +26,7 @@ use bg_types::{Base, Bidi, Memory};
 use bidi_explicit::paragraph_level;
 use bidi_weak_neutral::levels_into;
 use line_break::{Line, Outline, lines_into, outline_into};
-use paragraphs::{Para, Span, code_points_into};
+use paragraphs::{Para, code_points_into};
 use reorder::levels_after_l1;
 use std::alloc::Global;
 use std::mem;
@@ -44,24 +43,6 @@ struct Material<'a> {
     /// The level of each code point.
     levels: &'a [u8],
     clusters: &'a Outline,
-}
-
-/// Puts the levels of a line's code points, which has this extent in the paragraph's text, into a list, in place of what it
-/// has (L1).
-fn levels_in_line(levels: &mut Vec<u8>, material: &Material, whole: Span) -> Result<(), Memory>
-    requires classes { material.now.classes.now ≡ classes_of material.now.tables.now material.now.text.now }
-    requires levels { length material.now.levels.now ≡ length (code_points material.now.text.now) }
-    requires order { whole.first_place ≤ whole.end_place }
-    requires within { whole.end_place ≤ length (code_points material.now.text.now) }
-    ensures { OnOk result (levels.new.items ≡ levels_after_l1 material.now.para_level
-        (slice_range (classes_of material.now.tables.now material.now.text.now) whole.first_place whole.end_place)
-        (slice_range material.now.levels.now whole.first_place whole.end_place)) }
-{
-    let first = whole.first_place as usize;
-    let end = whole.end_place as usize;
-    let classes = &material.classes[first..end];
-    let before = &material.levels[first..end];
-    levels_after_l1(levels, classes, before, material.para_level)
 }
 
 /// The row of the next line, counted from the paragraph's start. Its clusters are passed.
@@ -88,7 +69,12 @@ fn row_of(
 {
     let count = (line.end - line.start) as u32;
     let whole = cursor.extent(&material.clusters.runs, count);
-    levels_in_line(&mut lists.levels, material, whole)?;
+    let first = whole.first_place as usize;
+    let end = whole.end_place as usize;
+    // L1 resets what stands at the line's end, whatever follows in the paragraph.
+    let classes = &material.classes[first..end];
+    let before = &material.levels[first..end];
+    levels_after_l1(&mut lists.levels, classes, before, material.para_level)?;
     cut(
         &mut lists.pieces,
         cursor,

@@ -1,10 +1,13 @@
 -- The row of a line that fits.
-use Rattle.std.proofs.Common.{◌-◌, List, length, take, sum, refl, sym, ap, subst, ◌∙◌, arith}
-use Rattle.std.proofs.lemmas.List.{length-take-le}
+use Rattle.std.proofs.Common.{◌-◌, List, length, take, sum, slice_range, refl, sym, ap, subst, ◌∙◌, arith}
+use Rattle.std.proofs.lemmas.List.{length-map, length-take-le}
 use Rattle.std.proofs.lemmas.Result.{IfOk-weaker}
 use Rattle.std.specs.List.{All}
 use Rattle.line_break.specs.declared.run.ShapeRun.{ShapeRun}
-use Rattle.reorder.specs.LineLevels.{group_firsts}
+use Rattle.bg_types.specs.declared.class.Bidi.{Bidi}
+use Rattle.unicode_tables.specs.Tables.{bidi_of}
+use Rattle.paragraphs.specs.Text.{code_points}
+use Rattle.reorder.specs.LineLevels.{levels_after_l1, group_firsts}
 use Rattle.cell_grid.specs.declared.cluster_run.ClusterRun.{ClusterRun}
 use Rattle.cell_grid.specs.Hanging.{hung}
 use Rattle.cell_grid.specs.Parts.{all_spans, all_sizes, all_columns, IsWithin, left_of, AreFrom, ArePassed}
@@ -13,6 +16,7 @@ use Rattle.cell_grid.specs.Rows.{row_with}
 use Rattle.cell_grid.specs.Runs.{runs_columns}
 use Rattle.cell_grid.specs.Spans.{extent}
 use Rattle.cell_grid.proofs.LinePieces.{line-next, line-later, line-ahead, after-long, whole-order, whole-within, row-pieces}
+use Rattle.cell_grid.proofs.Parts.{length-slice}
 use Rattle.cell_grid.proofs.PieceCuts.{sum-columns}
 use Rattle.cell_grid.proofs.Sides.{sum-hung}
 use Rattle.cell_grid.proofs.paragraph.row_of.Goals as goal
@@ -23,23 +27,61 @@ extent-whole-requires-clause-clusters c =
     line-ahead m.tables.now m.text.now c.args.line (left_of c.deref.result.now c.args.cursor.now) c.requires.line.within
     (subst (λ (l : List ShapeRun). AreFrom m.tables.now m.text.now c.args.line.start (left_of l c.args.cursor.now)) (sym c.deref.ensures.value) c.requires.at_start)
 
-pub levels_in_line-requires-clause-order : goal.levels_in_line-requires-clause-order
-levels_in_line-requires-clause-order c =
+pub slice_bounds-classes-start : goal.slice_bounds-classes-start
+slice_bounds-classes-start c =
     let m = c.args.material.now in
     let runs = left_of m.clusters.now.runs.items c.args.cursor.now in
     let count = c.args.line.end - c.args.line.start in
     let line = line-next m.tables.now m.text.now c.args.line (c.args.line.end - c.args.line.start) runs c.requires.line.order refl c.requires.at_start in
     let at = c.extent-whole.ensures ∙ ap (λ (l : List ShapeRun). extent (take (c.args.line.end - c.args.line.start) (all_spans (left_of l c.args.cursor.now)))) c.deref.ensures.value in
-    whole-order m.tables.now c.args.width m.para_level m.text.now m.levels.now c.args.line c.requires.line count runs line c.extent-whole.result at
+    let order = whole-order m.tables.now c.args.width m.para_level m.text.now m.levels.now c.args.line c.requires.line count runs line c.extent-whole.result at in
+    omega arith
 
-pub levels_in_line-requires-clause-within : goal.levels_in_line-requires-clause-within
-levels_in_line-requires-clause-within c =
+pub slice_bounds-classes-end : goal.slice_bounds-classes-end
+slice_bounds-classes-end c =
     let m = c.args.material.now in
     let runs = left_of m.clusters.now.runs.items c.args.cursor.now in
     let count = c.args.line.end - c.args.line.start in
     let line = line-next m.tables.now m.text.now c.args.line (c.args.line.end - c.args.line.start) runs c.requires.line.order refl c.requires.at_start in
     let at = c.extent-whole.ensures ∙ ap (λ (l : List ShapeRun). extent (take (c.args.line.end - c.args.line.start) (all_spans (left_of l c.args.cursor.now)))) c.deref.ensures.value in
-    whole-within m.tables.now c.args.width m.para_level m.text.now m.levels.now c.args.line c.requires.line count runs line c.extent-whole.result at
+    let within = whole-within m.tables.now c.args.width m.para_level m.text.now m.levels.now c.args.line c.requires.line count runs line c.extent-whole.result at in
+    let many = ap length c.requires.classes ∙ length-map (code_points m.text.now) (bidi_of m.tables.now) in
+    omega arith
+
+pub slice_bounds-before-start : goal.slice_bounds-before-start
+slice_bounds-before-start c =
+    let m = c.args.material.now in
+    let runs = left_of m.clusters.now.runs.items c.args.cursor.now in
+    let count = c.args.line.end - c.args.line.start in
+    let line = line-next m.tables.now m.text.now c.args.line (c.args.line.end - c.args.line.start) runs c.requires.line.order refl c.requires.at_start in
+    let at = c.extent-whole.ensures ∙ ap (λ (l : List ShapeRun). extent (take (c.args.line.end - c.args.line.start) (all_spans (left_of l c.args.cursor.now)))) c.deref.ensures.value in
+    let order = whole-order m.tables.now c.args.width m.para_level m.text.now m.levels.now c.args.line c.requires.line count runs line c.extent-whole.result at in
+    omega arith
+
+pub slice_bounds-before-end : goal.slice_bounds-before-end
+slice_bounds-before-end c =
+    let m = c.args.material.now in
+    let runs = left_of m.clusters.now.runs.items c.args.cursor.now in
+    let count = c.args.line.end - c.args.line.start in
+    let line = line-next m.tables.now m.text.now c.args.line (c.args.line.end - c.args.line.start) runs c.requires.line.order refl c.requires.at_start in
+    let at = c.extent-whole.ensures ∙ ap (λ (l : List ShapeRun). extent (take (c.args.line.end - c.args.line.start) (all_spans (left_of l c.args.cursor.now)))) c.deref.ensures.value in
+    let within = whole-within m.tables.now c.args.width m.para_level m.text.now m.levels.now c.args.line c.requires.line count runs line c.extent-whole.result at in
+    let many = c.requires.levels in
+    omega arith
+
+pub levels_after_l1-requires : goal.levels_after_l1-requires
+levels_after_l1-requires c =
+    let m = c.args.material.now in
+    let runs = left_of m.clusters.now.runs.items c.args.cursor.now in
+    let count = c.args.line.end - c.args.line.start in
+    let line = line-next m.tables.now m.text.now c.args.line (c.args.line.end - c.args.line.start) runs c.requires.line.order refl c.requires.at_start in
+    let at = c.extent-whole.ensures ∙ ap (λ (l : List ShapeRun). extent (take (c.args.line.end - c.args.line.start) (all_spans (left_of l c.args.cursor.now)))) c.deref.ensures.value in
+    let order = whole-order m.tables.now c.args.width m.para_level m.text.now m.levels.now c.args.line c.requires.line count runs line c.extent-whole.result at in
+    let within = whole-within m.tables.now c.args.width m.para_level m.text.now m.levels.now c.args.line c.requires.line count runs line c.extent-whole.result at in
+    let many = ap length c.requires.classes ∙ length-map (code_points m.text.now) (bidi_of m.tables.now) in
+    let whole = c.extent-whole.result in
+    length-slice m.levels.now whole.first_place whole.end_place order (omega (arith, within, c.requires.levels))
+    ∙ sym (length-slice m.classes.now whole.first_place whole.end_place order (omega (arith, within, many)))
 
 pub cut-requires-clause-clusters : goal.cut-requires-clause-clusters
 cut-requires-clause-clusters c =
@@ -54,8 +96,11 @@ cut-requires-clause-levels c =
     let count = c.args.line.end - c.args.line.start in
     let line = line-next m.tables.now m.text.now c.args.line (c.args.line.end - c.args.line.start) runs c.requires.line.order refl c.requires.at_start in
     let at = c.extent-whole.ensures ∙ ap (λ (l : List ShapeRun). extent (take (c.args.line.end - c.args.line.start) (all_spans (left_of l c.args.cursor.now)))) c.deref.ensures.value in
+    let l1 = c.in_ok-levels_after_l1.ensures
+    ∙ ap (λ (cs : List Bidi). levels_after_l1 m.para_level (slice_range cs c.extent-whole.result.first_place c.extent-whole.result.end_place)
+    (slice_range m.levels.now c.extent-whole.result.first_place c.extent-whole.result.end_place)) c.requires.classes in
     ap (λ (l : List ShapeRun). sum (take count (all_sizes (left_of l c.args.cursor.now)))) c.deref-2.ensures.value
-    ∙ after-long m.tables.now c.args.width m.para_level m.text.now m.levels.now c.args.line c.requires.line count runs line c.extent-whole.result at c.levels_in_line.new.levels.items c.requires.levels c.in_ok-levels_in_line.ensures
+    ∙ after-long m.tables.now c.args.width m.para_level m.text.now m.levels.now c.args.line c.requires.line count runs line c.extent-whole.result at c.levels_after_l1.new.after.items c.requires.levels l1
     ∙ sym (ap length c.deref-3.ensures.value)
 
 pub of_pieces-requires-clause-room : goal.of_pieces-requires-clause-room
@@ -92,6 +137,9 @@ returns-clause-row c =
     let count = c.args.line.end - c.args.line.start in
     let line = line-next m.tables.now m.text.now c.args.line (c.args.line.end - c.args.line.start) runs c.requires.line.order refl c.requires.at_start in
     let at = c.extent-whole.ensures ∙ ap (λ (l : List ShapeRun). extent (take (c.args.line.end - c.args.line.start) (all_spans (left_of l c.args.cursor.now)))) c.deref.ensures.value in
+    let l1 = c.in_ok-levels_after_l1.ensures
+    ∙ ap (λ (cs : List Bidi). levels_after_l1 m.para_level (slice_range cs c.extent-whole.result.first_place c.extent-whole.result.end_place)
+    (slice_range m.levels.now c.extent-whole.result.first_place c.extent-whole.result.end_place)) c.requires.classes in
     let same_spans = c.in_ok-cut.ensures.spans ∙ ap (λ (l : List ShapeRun). take count (all_spans (left_of l c.args.cursor.now))) c.deref-2.ensures.value in
     let same_levels = c.in_ok-cut.ensures.levels
     ∙ ap (λ (l : List ShapeRun). group_firsts (take count (all_sizes (left_of l c.args.cursor.now))) c.deref-3.result.now) c.deref-2.ensures.value
@@ -99,8 +147,8 @@ returns-clause-row c =
     let same_columns = c.in_ok-cut.ensures.columns ∙ ap (λ (l : List ShapeRun). hung c.args.width (take count (all_columns (left_of l c.args.cursor.now)))) c.deref-2.ensures.value in
     IfOk-weaker c.of_pieces.result _ _
     (λ row e. e ∙ ap (λ (l : List ClusterRun). row_with c.args.width m.para_level (spans_of l) (levels_of l) (columns_of l)) c.deref-4.ensures.value
-    ∙ row-pieces m.tables.now c.args.width m.para_level m.text.now m.levels.now c.args.line c.requires.line count runs line c.extent-whole.result at c.levels_in_line.new.levels.items c.requires.levels
-    c.in_ok-levels_in_line.ensures c.cut.new.pieces.items same_spans same_levels same_columns)
+    ∙ row-pieces m.tables.now c.args.width m.para_level m.text.now m.levels.now c.args.line c.requires.line count runs line c.extent-whole.result at c.levels_after_l1.new.after.items c.requires.levels
+    l1 c.cut.new.pieces.items same_spans same_levels same_columns)
     c.of_pieces.ensures
 
 pub returns-clause-at_end : goal.returns-clause-at_end
