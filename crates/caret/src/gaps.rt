@@ -2,7 +2,7 @@
 
 ghost use Rattle.std.specs.Prelude.{◌≡◌, ◌+◌, ◌≤◌, length};
 ghost use Rattle.reorder.specs.VisualList.{is_odd};
-ghost use Rattle.caret.specs.Gaps.{left_side, right_side, end_column, row_end, gap_column, last_gap_by, gap_place};
+ghost use Rattle.caret.specs.Gaps.{left_side, right_side, row_end, gap_column, last_gap_by, gap_place};
 ghost use Rattle.caret.specs.Moves.{caret_by};
 
 use crate::caret::Caret;
@@ -37,22 +37,13 @@ pub(crate) fn right_side(entry: &Entry) -> usize
     }
 }
 
-/// The column where an entry ends.
-fn end_column(entry: &Entry) -> usize
-    ensures { result ≡ end_column entry.now }
-{
-    let column = entry.column;
-    let columns = entry.columns;
-    column as usize + columns as usize
-}
-
 /// The column where the entries of a row end; for an empty row, where it starts.
 fn row_end(row: &Row) -> usize
     ensures { result ≡ row_end row.now }
 {
     let last = row.entry_count().saturating_sub(1);
     match row.entry(last) {
-        Some(entry) => end_column(&entry),
+        Some(entry) => entry.column as usize + entry.columns as usize,
         None if is_odd(row.para_level()) => usize::from(row.width()),
         None => 0,
     }

@@ -11,13 +11,6 @@ use crate::caret::Caret;
 use crate::gaps::is_odd;
 use cell_grid::{Entry, Grid, Row, laws};
 
-/// Whether an entry's cluster has a place.
-fn holds(entry: &Entry, place: usize) -> bool
-    ensures { result ≡ holds place entry.now }
-{
-    entry.span.first_place as usize <= place && place < entry.span.end_place as usize
-}
-
 /// The entry of a row whose cluster has a place, with its number.
 fn entry_at(row: &Row, place: usize) -> Option<(usize, Entry)>
     ensures entry { result ≡ entry_where (holds place) row.now.entries }
@@ -25,9 +18,9 @@ fn entry_at(row: &Row, place: usize) -> Option<(usize, Entry)>
 {
     // A row has no more entries than can be counted.
     let _count = row.entry_count();
-    row.entries()
-        .enumerate()
-        .find(|(_, entry)| holds(entry, place))
+    row.entries().enumerate().find(|(_, entry)| {
+        entry.span.first_place as usize <= place && place < entry.span.end_place as usize
+    })
 }
 
 /// The entry of a row whose cluster ends at a place, with its number.
