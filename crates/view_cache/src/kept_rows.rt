@@ -60,7 +60,10 @@ impl KeptRows {
         requires most { room ≤ 1_000_000 }
         ensures { IfOk result (λ kept. kept ≡ nothing_kept room key) }
     {
-        let kept = empty_cache(alloc, room)?;
+        let mut kept = LruCache::unbounded(alloc)?;
+        if let Some(room) = NonZeroUsize::new(room) {
+            kept.resize(room);
+        }
         Ok(KeptRows {
             hash_key: key,
             kept,
@@ -145,16 +148,4 @@ impl KeptRows {
         self.kept.put(key, printed)?;
         Ok(print)
     }
-}
-
-/// An empty cache with room for this many paragraphs.
-fn empty_cache(alloc: Global, room: usize) -> Result<LruCache<Key, Laid>, Memory>
-    requires { 1 ≤ room }
-    ensures { IfOk result (λ cache. cache ≡ lru_cache [] room) }
-{
-    let mut cache = LruCache::unbounded(alloc)?;
-    if let Some(room) = NonZeroUsize::new(room) {
-        cache.resize(room);
-    }
-    Ok(cache)
 }
