@@ -1,5 +1,6 @@
 //! What no clause says: rows drawn and printed, with small tables, and calls that succeed.
 
+mod from_rows;
 mod hostile;
 mod long_clusters;
 

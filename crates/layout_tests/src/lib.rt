@@ -18,6 +18,8 @@ mod drawn;
 #[cfg(test)]
 mod first_paragraph;
 #[cfg(test)]
+mod grids;
+#[cfg(test)]
 mod line_break_tests;
 #[cfg(test)]
 mod paragraphs_tests;

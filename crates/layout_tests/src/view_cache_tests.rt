@@ -2,38 +2,14 @@
 //!
 //! A draw or print of a view that was refused memory is made again, and not counted.
 
+use crate::grids::is_same;
 use crate::rows::{Row, assert_rows};
 use bg_types::{Base, Memory};
-use cell_grid::{Grid, InMemory, Row as GridRow, draw, print};
+use cell_grid::{Grid, InMemory, draw, print};
 use std::alloc::{AllocError, Global};
 use std::slice::from_ref;
 use ucd_files::Tables;
 use view_cache::*;
-
-fn is_same_row(row: &GridRow, same: &GridRow) -> bool {
-    row.width() == same.width()
-        && row.first_place() == same.first_place()
-        && row.last_place() == same.last_place()
-        && row.para_level() == same.para_level()
-        && has_same_entries(row, same)
-}
-
-fn has_same_entries(row: &GridRow, same: &GridRow) -> bool {
-    let mut right = row.entry_count() == same.entry_count();
-    for (entry, other) in row.entries().zip(same.entries()) {
-        right = entry == other && right;
-    }
-    right
-}
-
-/// Whether two grids have the same text and rows.
-fn is_same(one: &Grid, other: &Grid) -> bool {
-    let mut right = one.text() == other.text() && one.rows().len() == other.rows().len();
-    for (row, same) in one.rows().iter().zip(other.rows()) {
-        right = is_same_row(row, same) && right;
-    }
-    right
-}
 
 /// A draw, and how many paragraphs it lays out.
 type Draw<'a> = (u16, Base, &'a str, usize);
