@@ -1,6 +1,6 @@
 //! What the explicit rules make of a paragraph.
 
-ghost use Rattle.std.specs.Prelude.{◌≡◌, ◌<◌, ◌≤◌, OnOk, Some, length, slice_get};
+ghost use Rattle.std.specs.Prelude.{◌≡◌, ◌<◌, ◌≤◌, OnOk, OnErr, Some, [], length, slice_get};
 ghost use Rattle.std.specs.List.{All};
 ghost use Rattle.bidi_explicit.specs.Embedding.{embedding_at};
 ghost use Rattle.bidi_explicit.specs.Extents.{IsKept};
@@ -48,7 +48,11 @@ impl Model for Embedded {
 
 impl Embedded {
     /// That of no paragraph, to be put another in its place. Takes no memory.
-    pub fn new(alloc: Global) -> Embedded {
+    pub fn new(alloc: Global) -> Embedded
+        ensures level { result.level ≡ 0 }
+        ensures places { result.places ≡ [] }
+        ensures sequences { result.sequences ≡ [] }
+    {
         Embedded {
             level: 0,
             places: Vec::new(alloc),
@@ -58,16 +62,17 @@ impl Embedded {
     }
 
     /// Puts in its place what the rules make of a paragraph of this level, 0 or 1, whose code points have these classes.
-    /// After `Memory` it has no sequence, or is as it was.
+    /// After `Memory` it has no sequence.
     /// Cost: O(n), memory where the lists have no room.
     pub fn embed(&mut self, lists: &mut Lists, level: u8, classes: &[Bidi]) -> Result<(), Memory>
         requires { level ≤ 1 }
-        ensures { OnOk result (self.new ≡ embedding_at level classes.now) }
+        ensures ok { OnOk result (self.new ≡ embedding_at level classes.now) }
+        ensures err { OnErr result (self.new.sequences ≡ []) }
     {
-        controls_into(&mut lists.controls, &mut lists.matcher, classes)?;
         self.level = level;
         self.runs.clear();
         self.extents.clear();
+        controls_into(&mut lists.controls, &mut lists.matcher, classes)?;
         places_into(&mut self.places, level, classes, &lists.controls)?;
         match sequences_into(
             &mut self.runs,

@@ -32,7 +32,10 @@ pub struct Outline {
 
 impl Outline {
     /// That of no clusters. Takes no memory.
-    pub fn new(alloc: Global) -> Outline {
+    pub fn new(alloc: Global) -> Outline
+        ensures runs { result.runs.items ≡ [] }
+        ensures opportunities { result.opportunities.items ≡ [] }
+    {
         Outline {
             runs: Vec::new(alloc),
             opportunities: Vec::new(alloc),

@@ -14,22 +14,22 @@ pub returns-clause-places : goal.returns-clause-places
 returns-clause-places c =
     let cs = classes_of c.args.tables.now c.args.para.now.text in
     let classes : c.deref.result.now ≡ cs = c.deref.ensures.value ∙ c.in_ok-classes.ensures ∙ ap (classes_of c.args.tables.now) c.text.ensures in
-    let is = c.in_ok-embed.ensures ∙ ap (embedding_at c.paragraph_level-level.result) classes in
+    let is = c.in_ok-embed.ensures.ok ∙ ap (embedding_at c.paragraph_level-level.result) classes in
     ap (λ e. length e.places) is ∙ length-explicit_places c.paragraph_level-level.result cs ∙ length-map (code_points c.args.para.now.text) (bidi_of c.args.tables.now)
 
 pub returns-clause-removed : goal.returns-clause-removed
 returns-clause-removed c =
     let cs = classes_of c.args.tables.now c.args.para.now.text in
     let classes : c.deref.result.now ≡ cs = c.deref.ensures.value ∙ c.in_ok-classes.ensures ∙ ap (classes_of c.args.tables.now) c.text.ensures in
-    let is = c.in_ok-embed.ensures ∙ ap (embedding_at c.paragraph_level-level.result) classes in
+    let is = c.in_ok-embed.ensures.ok ∙ ap (embedding_at c.paragraph_level-level.result) classes in
     ap (λ e. map is_some e.places) is ∙ explicit_places-stay c.paragraph_level-level.result cs
 
 pub returns-clause-depth : goal.returns-clause-depth
 returns-clause-depth c =
-    All-same IsWithinDepth _ _ (ap (λ e. e.places) c.in_ok-embed.ensures)
+    All-same IsWithinDepth _ _ (ap (λ e. e.places) c.in_ok-embed.ensures.ok)
     (explicit_places-within c.paragraph_level-level.result c.deref.result.now c.paragraph_level-level.ensures.bound)
 
 pub returns-clause-sequence_depth : goal.returns-clause-sequence_depth
 returns-clause-sequence_depth c =
-    All-same IsLow _ _ (ap (λ e. e.sequences) c.in_ok-embed.ensures)
+    All-same IsLow _ _ (ap (λ e. e.sequences) c.in_ok-embed.ensures.ok)
     (sequences-within c.paragraph_level-level.result c.deref.result.now c.paragraph_level-level.ensures.bound)

@@ -29,8 +29,8 @@ sequences_into-requires-clause-kept c =
     subst (λ xs. AreKept xs c.deref-3.result.now) (sym controls)
     (subst (λ ps. AreKept (controls_from 0 cs) ps) (sym places) (are-kept c.args.level cs))
 
-pub returns-in-Ok : goal.returns-in-Ok
-returns-in-Ok c =
+pub returns-in-Ok-clause-ok : goal.returns-in-Ok-clause-ok
+returns-in-Ok-clause-ok c =
     let cs = c.args.classes.now in
     let controls : c.deref-2.result.now ≡ controls_from 0 cs = c.deref-2.ensures.value ∙ c.in_ok-controls_into.ensures in
     embedding-is cs c.args.level c.places_into.new.places.items _ c.deref-2.result.now
