@@ -10,3 +10,11 @@ usage() {
     sed -n '2,/^[^#]/s/^# \{0,1\}//p' "$0" | grep -A1 '^Usage' >&2
     exit 2
 }
+
+# are_numbers WORD..: whether each word is a number
+are_numbers() {
+    local word
+    for word; do
+        [[ $word =~ ^[0-9]+$ ]] || return 1
+    done
+}

@@ -1,7 +1,5 @@
-# Rows of runs of the program: what is run, and what it must write, say and answer. A script sources this file.
-# The program is ./bidigrid, or the one that BIDIGRID names.
-
-. "$(dirname "$(readlink -f "$0")")/../help.sh"
+# Rows of runs of the program: what is run, and what it must write, say and answer. A script sources this file, and before it
+# help.sh. The program is ./bidigrid, or the one that BIDIGRID names.
 
 root=$(cd "$(dirname "$(readlink -f "$0")")/../.." && pwd)
 program=${BIDIGRID:-$root/bidigrid}
