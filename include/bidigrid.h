@@ -208,7 +208,7 @@ uint32_t bidigrid_picture_entries(const bidigrid_picture *picture, size_t row, b
 uint32_t bidigrid_picture_row_print(const bidigrid_picture *picture, size_t row, char *out, size_t room,
                                     size_t *size);
 
-/* The same of all rows, a whole screen in one call. */
+/* The prints of all rows, one after the other: a whole screen in one call. */
 uint32_t bidigrid_picture_print(const bidigrid_picture *picture, char *out, size_t room, size_t *size);
 
 /* How many bytes the cells of each entry of a row have in the row's print, into a list beside that of its entries. They
@@ -289,9 +289,10 @@ void bidigrid_document_free(bidigrid_document *document);
 uint32_t bidigrid_document_resize(bidigrid_document *document, uint32_t width);
 uint32_t bidigrid_document_set_base(bidigrid_document *document, uint32_t base);
 
-/* Rows are kept once they are laid out, in the memory of those of four windows, or of so many where these are more, at most
- * BIDIGRID_MAX_OPERATIONS, each counted with 20 bytes for each column. Where all rows of a text are kept, only
- * what changes is laid out again, however far apart the windows are; that takes 14 bytes for each run. What is shown stays. */
+/* Rows are kept once they are laid out, in the memory that those of four windows take, or this many rows where that is
+ * more (at most BIDIGRID_MAX_OPERATIONS), each counted with 20 bytes for each column. Where all rows of a text are kept,
+ * only what changes is laid out again, however far apart the windows are; a row then takes 48 bytes, and 14 for each run of
+ * like clusters. What is shown stays. */
 uint32_t bidigrid_document_keep_rows(bidigrid_document *document, size_t rows);
 
 /* As bidigrid_desk_insert, _erase and _replace. Where those take no memory, these are not refused for lack of it: what
@@ -344,10 +345,9 @@ typedef struct bidigrid_window {
     size_t number;
 } bidigrid_window;
 
-/* Shows the rows of the text from so many above the row of a place to so many below it, fewer at the text's ends,
- * and lays out those of their paragraphs that are not kept. They stay shown until the document changes, or is to
- * show others. More than BIDIGRID_MAX_WINDOW_ROWS is BIDIGRID_FAULT_BAD_ROW. After BIDIGRID_FAULT_MEMORY nothing is
- * shown. */
+/* Shows the row of a place, and so many rows above and below it, fewer at the text's ends, and lays out those of their
+ * paragraphs that are not kept. They stay shown until the document changes, or is to show others. More than
+ * BIDIGRID_MAX_WINDOW_ROWS is BIDIGRID_FAULT_BAD_ROW. After BIDIGRID_FAULT_MEMORY nothing is shown. */
 uint32_t bidigrid_document_show(bidigrid_document *document, size_t place, size_t above, size_t below,
                                 bidigrid_window *out);
 

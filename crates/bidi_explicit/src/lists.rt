@@ -13,7 +13,7 @@ pub struct Lists {
 }
 
 impl Lists {
-    /// Empty ones. Takes no memory.
+    /// Empty lists. Takes no memory.
     pub fn new(alloc: Global) -> Lists {
         Lists {
             controls: Vec::new(alloc),

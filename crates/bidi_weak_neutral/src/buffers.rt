@@ -22,7 +22,7 @@ pub struct Buffers {
 }
 
 impl Buffers {
-    /// Empty ones. Takes no memory.
+    /// Empty buffers. Takes no memory.
     pub fn new(alloc: Global) -> Buffers {
         Buffers {
             embedded: Embedded::new(alloc),

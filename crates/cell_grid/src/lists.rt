@@ -38,7 +38,7 @@ pub(crate) struct LineLists {
 }
 
 impl Lists {
-    /// Empty ones. Takes no memory.
+    /// Empty lists. Takes no memory.
     pub fn new(alloc: Global) -> Lists {
         Lists {
             points: Vec::new(alloc),

@@ -410,10 +410,10 @@ impl Document {
         self.shown = Shown::nothing();
     }
 
-    /// From now on rows are kept in the memory of so many (at most 1,000,000), or of those of four windows where these are more,
-    /// counted as if each column had an entry of its own; a document is made with 0. A row has 48 bytes, and 14 for each run of like
-    /// clusters, so that most texts have many more rows in it. Where the rows of a whole text may be kept, a paragraph is laid out once and
-    /// after edits of its own alone. What is shown stays, and the next `show` forgets what is too much.
+    /// Keeps rows from now on in the memory that this many take (at most 1,000,000), or those of four windows where that is more,
+    /// as if each column had an entry of its own; a document is made with 0. A row has 48 bytes, and 14 for each run of like
+    /// clusters, so that most texts have many more rows in it. Where the rows of a whole text may be kept, a paragraph is laid out
+    /// once and after its own edits alone. What is shown stays, and the next `show` forgets what is too much.
     /// Cost: O(1); `show` then keeps up to 14 bytes for each run of a row.
     pub fn keep_rows(&mut self, rows: usize)
         requires { rows ≤ 1_000_000 }
@@ -423,8 +423,8 @@ impl Document {
         self.most = Most { rows };
     }
 
-    /// Lays out what is not kept of a window: the rows from so many above the row of a place to so many below it, each at
-    /// most 1,000. `window` shows it then. What was kept stays, unless its rows have more bytes than those of four such windows with
+    /// Lays out what is not kept of a window: the row of a place, and so many rows above and below it, at most 1,000 each.
+    /// `window` shows it then. What was kept stays, unless its rows have more bytes than those of four such windows with
     /// an entry for each column, each of at least 64 rows, and than as many such rows as `keep_rows` was asked for: then no more
     /// than these have, or the rows of the window's paragraphs alone. After `Memory` nothing is shown and no row kept.
     /// Cost: O(d / 32) of the d paragraphs between the place and where the last edit or `show` was, O(64) for each that has a

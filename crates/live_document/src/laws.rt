@@ -32,8 +32,8 @@ pub fn cost_law()
 {}
 
 /// The memory law. After a window was laid out and then edits came, what is kept weighs no more than the rows of four such windows
-/// would with a run for each column, each of at least 64 rows, or than as many such rows as were asked for, or than what the window's
-/// paragraphs had.
+/// would with an entry for each column, each of at least 64 rows, or than as many such rows as were asked for, or than what the
+/// window's paragraphs had.
 pub fn memory_law()
     ensures { (before shown changed : LiveDocument) (steps : List Step) (place above below : ℕ)
         → (one : IsLaidOut before shown place above below) → IsTouchedInTurn shown.paragraphs steps changed.paragraphs

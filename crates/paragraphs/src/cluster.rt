@@ -75,7 +75,7 @@ impl<'a> Clusters<'a> {
         Some(c)
     }
 
-    /// The same clusters, to be taken apart from these.
+    /// A copy, whose clusters are taken by themselves.
     #[inline]
     pub fn again(&self) -> Clusters<'a>
         ensures { result ≡ self.now }

@@ -336,7 +336,7 @@ fn spot(leaves: &[Leaf], leaf: usize, id: Id) -> (usize, usize)
     (b, not_above(&leaves[b].keys, id))
 }
 
-/// The same, where one key of a leaf is tried first.
+/// Where the keys end that aren't above an identifier, as `spot` gives it; one key of a leaf is tried first.
 #[inline(always)]
 fn spot_behind(leaves: &[Leaf], leaf: usize, likely: usize, id: Id) -> (usize, usize)
     requires some { 0 < length leaves.now }

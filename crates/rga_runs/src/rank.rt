@@ -53,7 +53,7 @@ fn dense_key(keys: &[Key], last: u64) -> usize {
     }
 }
 
-/// The same if the numbers of all rose evenly.
+/// Where that key would stand if the numbers of all rose evenly.
 fn even_key(keys: &[Key], last: u64) -> usize {
     match keys.last() {
         Some(end) => share(

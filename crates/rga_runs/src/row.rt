@@ -67,7 +67,7 @@ pub fn stands(row: &Row, id: Id) -> bool
     recent_spot(row, id).is_some() || is_keyed(row, id)
 }
 
-/// The same as `spot` of a character of the stretch in which one was put last, or of that before it.
+/// What `spot` gives, of a character of the stretch in which one was put last, or of the stretch before it.
 fn recent_spot(row: &Row, id: Id) -> Option<(usize, usize, usize)>
     ensures block { IfSome result (λ s. s.0 < vec_len row.now.blocks) }
     ensures within { IfSome result (λ s. s.1 < length (get_or (items_of row.now.blocks.items) s.0 [])) }
@@ -81,7 +81,7 @@ fn recent_spot(row: &Row, id: Id) -> Option<(usize, usize, usize)>
     }
 }
 
-/// The same of a character of stretch j of block b, if there is one.
+/// What `spot` gives, of a character of stretch j of block b, if there is that stretch.
 fn spot_in(row: &Row, b: usize, j: usize, id: Id) -> Option<(usize, usize, usize)>
     ensures block { IfSome result (λ s. s.0 < vec_len row.now.blocks) }
     ensures within { IfSome result (λ s. s.1 < length (get_or (items_of row.now.blocks.items) s.0 [])) }
@@ -125,7 +125,7 @@ fn is_keyed(row: &Row, id: Id) -> bool
     }
 }
 
-/// The same as `spot` by the keys.
+/// What `spot` gives, found by the keys.
 #[inline(never)]
 fn keyed_spot(row: &Row, id: Id) -> Option<(usize, usize, usize)>
     requires indexed { IsIndexed row.now }
@@ -140,7 +140,7 @@ fn keyed_spot(row: &Row, id: Id) -> Option<(usize, usize, usize)>
     spot_by(row, &key, id)
 }
 
-/// The same by the key to which an identifier leads: where it isn't of the stretch of that, it stands nowhere.
+/// What `spot` gives, by the key to which an identifier leads: where that key's stretch hasn't it, it stands nowhere.
 fn spot_by(row: &Row, key: &Key, id: Id) -> Option<(usize, usize, usize)>
     requires indexed { IsIndexed row.now }
     requires apart { AreApart (stretches_in row.now) }

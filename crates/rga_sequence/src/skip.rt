@@ -1,3 +1,5 @@
+//! Where a new element goes: behind those with greater identifiers. Neighbouring blocks are passed at once.
+
 ghost use Rattle.std.specs.Prelude.{◌≡◌, ◌+◌, ◌-◌, ◌<◌, ◌≤◌, length, take, drop, get_or, []};
 ghost use Rattle.std.specs.Ordering.{is_lt};
 ghost use Rattle.std.specs.List.{prefix_len};

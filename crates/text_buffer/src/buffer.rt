@@ -408,7 +408,7 @@ impl<K: Drop> Buffer<K> {
 }
 
 impl<K: Weighed + Drop> Buffer<K> {
-    /// How much all weighs that is kept.
+    /// How much all that is kept weighs.
     /// Cost: O(n / 32) of the paragraphs, and O(64) for each block of at most 64 of which something is kept.
     pub fn kept_weight(&self) -> usize
         requires { kept_weight K.weight self.now ≤ 2_000_000_000_000_000 }

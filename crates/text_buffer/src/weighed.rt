@@ -1,4 +1,4 @@
-//! What weighs that is kept beside paragraphs.
+//! How much what is kept beside paragraphs weighs.
 
 ghost use Rattle.std.specs.Prelude.{◌≡◌, ◌≤◌, ℕ};
 ghost use Rattle.text_buffer.specs.Pieces.{weight_of, weight_in};
@@ -7,7 +7,7 @@ ghost use Rattle.text_buffer.specs.Blocks.{pieces_in};
 use crate::block::Block;
 use crate::piece::Piece;
 
-/// What may be kept beside a paragraph, and weighs something: what of it counts against a bound.
+/// What may be kept beside a paragraph: it weighs something, which counts against a bound.
 pub trait Weighed {
     ghost weight: { Self → ℕ };
 
