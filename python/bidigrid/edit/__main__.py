@@ -154,6 +154,16 @@ def refuse(fault: EditFault) -> int:
     return STATUS_FAULT
 
 
+def heed(is_ended: list[int]) -> int:
+    """Lets signals wake the editor through the file that is answered, and notes those that end it."""
+    waker, wake = os.pipe2(os.O_NONBLOCK | os.O_CLOEXEC)
+    signal.set_wakeup_fd(wake, warn_on_full_buffer=False)
+    signal.signal(signal.SIGWINCH, lambda number, frame: None)
+    for number in (signal.SIGTERM, signal.SIGHUP):
+        signal.signal(number, lambda number, frame: is_ended.append(number))
+    return waker
+
+
 def main(words: list[str] | None = None) -> int:
     """Edits a text, and answers the status."""
     wanted = asked(words)
@@ -165,12 +175,8 @@ def main(words: list[str] | None = None) -> int:
         desk = Desk(Log(wanted.log or f"{wanted.text}.bgop"), channel, wanted.site, base=wanted.base)
     except EditFault as fault:
         return refuse(fault)
-    waker, wake = os.pipe2(os.O_NONBLOCK | os.O_CLOEXEC)
-    signal.set_wakeup_fd(wake, warn_on_full_buffer=False)
     is_ended: list[int] = []
-    signal.signal(signal.SIGWINCH, lambda number, frame: None)
-    for number in (signal.SIGTERM, signal.SIGHUP):
-        signal.signal(number, lambda number, frame: is_ended.append(number))
+    waker = heed(is_ended)
     try:
         screen = Screen(wanted.logical)
     except EditFault as fault:
