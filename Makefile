@@ -18,6 +18,8 @@ LDFLAGS ?=
 BIDIGRID ?= build/bin/bidigrid
 # Debian's own Python, which has cffi, pytest and the others of make deps.
 PYTHON ?= /usr/bin/python3
+# So sudo make install leaves nothing of root's beside the sources.
+export PYTHONDONTWRITEBYTECODE = 1
 
 PROGRAM = build/bin/bidigrid
 LIB = build/lib
