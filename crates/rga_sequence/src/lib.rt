@@ -1,4 +1,4 @@
-//! A sequence in blocks, whose places are found by their blocks.
+//! A sequence in blocks of elements: what is sought in it is found by passing whole blocks.
 #![tactic(auto)]
 
 mod before;

@@ -1,4 +1,4 @@
-//! A text in paragraphs, of which an edit makes those anew that it touches.
+//! A text in paragraphs, in which an edit makes anew those that it touches.
 #![tactic(auto)]
 
 mod block;
