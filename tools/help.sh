@@ -11,6 +11,14 @@ usage() {
     exit 2
 }
 
+# need COMMAND..: ends a script that lacks a command
+need() {
+    local command
+    for command; do
+        command -v "$command" >/dev/null || { echo "$(basename "$0"): there is no $command" >&2; exit 3; }
+    done
+}
+
 # are_numbers WORD..: whether each word is a number
 are_numbers() {
     local word
