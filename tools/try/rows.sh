@@ -3,7 +3,8 @@
 
 root=$(cd "$(dirname "$(readlink -f "$0")")/../.." && pwd)
 program=${BIDIGRID:-$root/bidigrid}
-program=$(cd "$(dirname "$program")" && pwd)/$(basename "$program")
+need "$program" xxd python3
+program=$(realpath "$program")
 "$program" --help >/dev/null || exit 3
 folder=$(mktemp -d)
 trap 'rm -rf "$folder"' EXIT
