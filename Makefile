@@ -136,6 +136,7 @@ install-lib: lib
 	sed -e 's|@PREFIX@|$(PREFIX)|; s|@VERSION@|$(VERSION)|; s|@LIBDIR@|$(libdir:$(PREFIX)/%=$${prefix}/%)|' \
 	    -e 's|@INCLUDEDIR@|$(includedir:$(PREFIX)/%=$${prefix}/%)|' c/bidigrid.pc.in \
 	    >'$(DESTDIR)$(libdir)/pkgconfig/bidigrid.pc'
+	chmod 644 '$(DESTDIR)$(libdir)/pkgconfig/bidigrid.pc'
 	install -m 644 $(NOTICE) '$(DESTDIR)$(docdir)/UNICODE_DATA.md'
 	for page in $(PAGES); do \
 	    tools/make/installed-page $$page $(PAGES) $(NOTICE)=UNICODE_DATA.md >'$(DESTDIR)$(docdir)'/$${page##*/} && \
