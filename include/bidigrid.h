@@ -7,8 +7,9 @@
  * bidigrid_desk      one copy of a text that several write, and no more
  *
  * Handles. A handle begins as { 0 }, BIDIGRID_NONE, and is passed by its address. `new` fills it, `free` empties it;
- * a handle that is empty may be freed again, and one that is full may be made anew, which frees what it held. Don't
- * copy a handle, and don't touch what `held` points to. NULL may be freed too.
+ * a handle that is empty may be freed again, and one that is full may be made anew, which frees what it held. It may
+ * move in memory, as by realloc, but don't copy it, and don't touch what `held` points to. NULL counts as an empty
+ * handle, but can't be filled.
  *
  * Answers. Each call whose result is a uint32_t answers 0, BIDIGRID_OK, or the number of a fault; bidigrid_version
  * alone answers its number. After a fault each handle holds what it held before, where the call doesn't say more, and
