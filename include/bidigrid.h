@@ -219,14 +219,16 @@ uint32_t bidigrid_picture_entry_sizes(const bidigrid_picture *picture, size_t ro
                                       size_t *count);
 
 /* A caret stands in a gap of a row: gap g left of entry g, the last gap right of the last entry. Its place is where
- * the next character goes. */
+ * the next character goes. It is seen at the column of entry g; in the last gap behind the cells of the last entry, which
+ * may be at the width; and at the column of the row where that has no entries. */
 typedef struct bidigrid_caret {
     size_t row;
     size_t gap;
     size_t place;
 } bidigrid_caret;
 
-/* The caret at a place, 0 to the text's length; where the place lies inside a cluster, at the cluster's first place. */
+/* The caret at a place, 0 to the text's length; where the place lies inside a cluster, at the cluster's first place. So
+ * the cluster before a place, which a backspace there erases, begins at the `place` of the caret one place before. */
 uint32_t bidigrid_caret_at(const bidigrid_picture *picture, size_t place, bidigrid_caret *out);
 
 /* The caret where a mouse points: in this row, the last gap that isn't right of the column; gap 0 where all are. */
@@ -365,15 +367,16 @@ uint32_t bidigrid_document_row_print(const bidigrid_document *document, size_t r
 uint32_t bidigrid_document_print(const bidigrid_document *document, char *out, size_t room, size_t *size);
 
 /* Where a caret stands in a document: in a gap of a row, as a bidigrid_caret of the whole text, but that the row is
- * named by its first place. No two rows have the same one, so it holds whatever is shown. */
+ * named by its first place. No two rows have the same one, so it holds whatever is shown. Show it by its row: its place
+ * may be in the next one, where it stands at the end of a row that was broken. */
 typedef struct bidigrid_position {
     size_t row; /* the first place of its row */
     size_t gap;
     size_t place;
 } bidigrid_position;
 
-/* As bidigrid_caret_at and _under, with the row of a place in place of a row's number. What was shown before is not
- * shown any more: bidigrid_document_show comes after this call, and so after the moves. */
+/* As bidigrid_caret_at and _under, with the row of a place, as of a position's row, instead of a row's number. What was
+ * shown before is not shown any more: bidigrid_document_show comes after this call, and so after the moves. */
 uint32_t bidigrid_position_at(bidigrid_document *document, size_t place, bidigrid_position *out);
 uint32_t bidigrid_position_under(bidigrid_document *document, size_t place, size_t column, bidigrid_position *out);
 

@@ -144,6 +144,21 @@ static void tries_room(void)
     bidigrid_document_free(&document);
 }
 
+/* A handle may move in memory. */
+static void tries_moving(void)
+{
+    bidigrid_document document = made(1, 4), *moved = malloc(sizeof *moved);
+    uint8_t out[256];
+    bytes message = {out, 0};
+    CHECK(moved && insert(&document, 0, "ab", &message) == BIDIGRID_OK);
+    *moved = document;
+    document = (bidigrid_document)BIDIGRID_NONE;
+    CHECK(insert(moved, 2, "c", &message) == BIDIGRID_OK && shows(moved, 0, 0, 0, 1, 0, "abc \n"));
+    bidigrid_document_free(moved);
+    CHECK(!moved->held);
+    free(moved);
+}
+
 /* Its tables may go first. */
 static void tries_tables(void)
 {
@@ -204,6 +219,7 @@ int main(void)
     tries_edits();
     tries_windows();
     tries_room();
+    tries_moving();
     tries_tables();
     tries_empty_handles();
     bidigrid_tables_free(&tables);
