@@ -145,6 +145,8 @@ static const row ROWS[] = {
     {"bidigrid_desk_reserve", a_large_desk, reserves, false},
     {"bidigrid_desk_text", a_large_desk, reads, false},
     {"bidigrid_desk_file", a_large_desk, saves, false},
+    {"bidigrid_desk_text, asked for its size", a_large_desk, asks_for_a_text, false},
+    {"bidigrid_desk_file, asked for its size", a_large_desk, asks_for_a_file, false},
     {"bidigrid_desk_merge", two_large_desks, merges, true},
     {"bidigrid_document_new", a_shown_document, makes_a_document, false},
     {"bidigrid_document_open", a_shown_document, opens_a_document, false},
@@ -164,6 +166,8 @@ static const row ROWS[] = {
     {"bidigrid_document_row_print", a_shown_document, document_prints_a_row, false},
     {"bidigrid_document_text", a_shown_document, document_reads, false},
     {"bidigrid_document_file", a_shown_document, document_saves, false},
+    {"bidigrid_document_text, asked for its size", a_large_document, document_asks_for_a_text, true},
+    {"bidigrid_document_file, asked for its size", a_shown_document, document_asks_for_a_file, false},
 };
 
 /* While operations are spare, characters are typed and erased though all memory is refused. */

@@ -213,6 +213,33 @@ static uint32_t document_saves(void)
     return bidigrid_document_file(&document, out, sizeof out, &size);
 }
 
+/* How many bytes a call has to write, asked for without room: 0 where there is no memory to tell. */
+static uint32_t asked(uint32_t answer)
+{
+    CHECK(answer == BIDIGRID_FAULT_MEMORY ? size == 0 : answer == BIDIGRID_FAULT_SHORT_BUFFER && size > 0);
+    return answer == BIDIGRID_FAULT_SHORT_BUFFER ? BIDIGRID_OK : answer;
+}
+
+static uint32_t asks_for_a_text(void)
+{
+    return asked(bidigrid_desk_text(&desk, NULL, 0, &size));
+}
+
+static uint32_t asks_for_a_file(void)
+{
+    return asked(bidigrid_desk_file(&desk, NULL, 0, &size));
+}
+
+static uint32_t document_asks_for_a_text(void)
+{
+    return asked(bidigrid_document_text(&document, NULL, 0, &size));
+}
+
+static uint32_t document_asks_for_a_file(void)
+{
+    return asked(bidigrid_document_file(&document, NULL, 0, &size));
+}
+
 /* What is made before each try. */
 
 static void nothing(void)
