@@ -78,10 +78,10 @@ enum {
     BIDIGRID_FAULT_BAD_SITE = 112,           /* the site is not 1 to BIDIGRID_MAX_SITE */
     BIDIGRID_FAULT_BAD_IDENTIFIER = 113,     /* the identifier's counter is 0, or its site none */
     BIDIGRID_FAULT_NOT_PLACED = 114,         /* the desk has no such character yet */
-    BIDIGRID_FAULT_TOO_MANY = 115,           /* more than BIDIGRID_MAX_OPERATIONS */
+    BIDIGRID_FAULT_TOO_MANY = 115,           /* more than BIDIGRID_MAX_OPERATIONS operations or rows are asked for */
     BIDIGRID_FAULT_MESSAGE_TOO_LONG = 116,   /* a message: more than BIDIGRID_MAX_MESSAGE_SIZE bytes; it is not read */
     BIDIGRID_FAULT_IDENTIFIER_REUSED = 201,  /* an operation: its identifier is there with another parent or character */
-    BIDIGRID_FAULT_FULL = 202,               /* there would be more than BIDIGRID_MAX_OPERATIONS */
+    BIDIGRID_FAULT_FULL = 202,               /* there would be more than BIDIGRID_MAX_OPERATIONS operations */
     BIDIGRID_FAULT_COUNTER_SPENT = 203,      /* the next counter is above 4294967295 */
     BIDIGRID_FAULT_BAD_MAGIC = 301,          /* a message: it begins with other bytes than BGOP */
     BIDIGRID_FAULT_BAD_VERSION = 302,        /* a version other than 1 and 2 */

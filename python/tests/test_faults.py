@@ -93,7 +93,7 @@ def test_a_document_that_is_full_takes_what_it_can() -> None:
     document.type(0, "a" * 999_998)
     with pytest.raises(Fault) as raised:
         document.type(0, "abc")
-    assert raised.value.name == "Full" and len(document) == 999_998
+    assert str(raised.value) == "202 Full: there would be more than 1000000 operations" and len(document) == 999_998
     with pytest.raises(Fault) as raised:
         document.take(other.type(0, "xyz"))
     fault = raised.value
