@@ -9,7 +9,7 @@ from .change import Changes
 from .fault import fault, must
 from .given import Base, Message
 from .position import Positions
-from .room import written
+from .room import filled, written
 from .taking import faulty_frame, merged, taken
 from .thread import here
 from .window import Window, shown_rows
@@ -156,14 +156,17 @@ class Document(Positions):
         return self._edited(lib.bidigrid_document_replace, stop - start, text, start, stop)
 
     def _edited(self, call: Any, erased: int, text: str | None, *places: int) -> bytes:
-        """The message of an edit. The room for it is right at once, so that nothing is done twice."""
+        """The message of an edit, whose size is known before."""
         handle = self._full()
         # Where more are to be erased than there can be, the call refuses it whatever room there is.
         erased = min(max(erased, 0), lib.BIDIGRID_MAX_OPERATIONS)
         if text is None:
-            return written(call, "uint8_t", 5 + 9 * erased, handle, *places)
-        characters = given.characters(text)
-        return written(call, "uint8_t", 5 + 9 * erased + 19 * len(text), handle, *places, characters, len(characters))
+            return filled(call, 5 + 9 * erased, handle, *places)
+        characters, typed = given.characters(text), str.__len__(text)
+        if typed > lib.BIDIGRID_MAX_OPERATIONS:
+            # Before room is asked for a message of all that.
+            raise fault(lib.BIDIGRID_FAULT_FULL)
+        return filled(call, 5 + 9 * erased + 19 * typed, handle, *places, characters, len(characters))
 
     def take(self, message: Message) -> Changes:
         """Takes a message of another document, and returns what it changed in the text, in order. It may come again, and

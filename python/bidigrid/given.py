@@ -42,7 +42,8 @@ def characters(text: str) -> bytes:
     """The UTF-8 of a text; a UnicodeEncodeError, which is a ValueError, where it has a lone surrogate."""
     if not isinstance(text, str):
         raise TypeError(f"a text is a str, not {type(text).__name__}")
-    return text.encode("utf-8")
+    # As str has it, whatever a class below it makes of that.
+    return str.encode(text, "utf-8")
 
 
 def message(data: Message) -> bytes:

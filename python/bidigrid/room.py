@@ -38,3 +38,12 @@ class Room:
 def written(call: Call, kind: str, guess: int, *given: Any) -> bytes:
     """The bytes of all that one call writes, whose length is guessed."""
     return Room(kind, guess).written(call, *given)
+
+
+def filled(call: Call, size: int, *given: Any) -> bytes:
+    """The bytes that a call writes, which are so many. They are there before it, since a lack of memory behind it would
+    lose the message of what is done."""
+    made = bytes(size)
+    # Nobody else has these bytes yet, so they may still be written.
+    must(call(*given, ffi.from_buffer(_KINDS["uint8_t"], made), size, ffi.NULL))
+    return made

@@ -14,12 +14,13 @@ def taken(handle: Any, message: bytes) -> Changes:
     answer = lib.bidigrid_document_take(handle, message, len(message), told)
     if answer and not told.taken:
         raise fault(answer, faulty_frame(answer, told))
-    return _told(handle, answer, told.taken, told.operations)
+    return _changed(handle, answer, told)
 
 
 def merged(handle: Any, other: Any) -> Changes:
-    """Takes all that another document has, and returns what that changed."""
-    return _told(handle, lib.bidigrid_document_merge(handle, other), 0, 64)
+    """Takes all that another document has, and returns what that changed. Nobody counts its operations."""
+    told = ffi.new("bidigrid_taken *")
+    return _changed(handle, lib.bidigrid_document_merge(handle, other), told)
 
 
 def faulty_frame(answer: int, told: Any) -> int | None:
@@ -27,13 +28,14 @@ def faulty_frame(answer: int, told: Any) -> int | None:
     return int(told.frame) if lib.BIDIGRID_FAULT_BAD_MAGIC <= answer < lib.BIDIGRID_FAULT_BAD_UTF8 else None
 
 
-def _told(handle: Any, answer: int, taken: int, guess: int) -> Changes:
+def _changed(handle: Any, answer: int, told: Any) -> Changes:
     """What the last take or merge changed, or its fault with that."""
     changes: Changes | None = None
     try:
-        changes = Changes(written(lib.bidigrid_document_changes, "bidigrid_change", guess, handle))
+        # As many as there are operations, if these neither wait nor release others.
+        changes = Changes(written(lib.bidigrid_document_changes, "bidigrid_change", told.operations, handle))
     except MemoryError:
         answer = answer or lib.BIDIGRID_FAULT_MEMORY
     if answer or changes is None:
-        raise fault(answer, None, taken, changes)
+        raise fault(answer, None, told.taken, changes)
     return changes

@@ -142,6 +142,27 @@ def test_a_lack_of_memory_is_a_memory_error() -> None:
     subprocess.run([sys.executable, "-c", SHORT_OF_MEMORY], check=True, timeout=60)
 
 
+TOO_LONG = """
+import resource
+from pathlib import Path
+from bidigrid import Document, Fault
+document, text = Document(1), "a" * 4_000_000
+pages = int(Path("/proc/self/statm").read_text().split()[0])
+resource.setrlimit(resource.RLIMIT_AS, (pages * resource.getpagesize() + 30_000_000, -1))
+for edit in (lambda: document.type(0, text), lambda: document.replace(0, 0, text)):
+    try:
+        edit()
+    except Fault as refused:
+        assert refused.name == "Full" and document.text == ""
+    else:
+        raise SystemExit("not refused")
+"""
+
+
+def test_a_text_that_is_too_long_asks_for_no_room() -> None:
+    subprocess.run([sys.executable, "-c", TOO_LONG], check=True, timeout=60)
+
+
 def test_what_stands_is_told_where_its_changes_are_not(monkeypatch: pytest.MonkeyPatch) -> None:
     def refuse(*_: object) -> bytes:
         raise MemoryError

@@ -52,3 +52,20 @@ def test_each_plane_can_be_typed() -> None:
     document, other = Document(1), Document(2)
     changes = other.take(document.type(0, text))
     assert document.text == other.text == text and [change.character for change in changes] == list(text)
+
+
+class Lying(str):
+    """A str that isn't what it says of itself."""
+
+    def __len__(self) -> int:
+        return 7
+
+    def encode(self, encoding: str = "", errors: str = "") -> bytes:
+        return b"?"
+
+
+def test_a_text_is_what_str_has_of_it() -> None:
+    document, other = Document(1), Document(2)
+    other.take(document.type(0, Lying("tea")))
+    other.take(document.replace(0, 1, Lying("אב")))
+    assert document.text == other.text == "אבea" and str(layout(Lying("tea"), 3)) == "tea"
