@@ -96,6 +96,7 @@ class Document(Positions):
         home = here()
         handle = ffi.new("bidigrid_document *")
         how = (home.tables(wide_ambiguous), given.small(site), given.small(width), given.base(base), high, low)
+        self._hold(home, handle, lib.bidigrid_document_free)
         if data is None:
             must(lib.bidigrid_document_new(handle, *how))
         else:
@@ -103,7 +104,6 @@ class Document(Positions):
             answer = lib.bidigrid_document_open(handle, *how, file, len(file), told)
             if answer:
                 raise fault(answer, faulty_frame(answer, told))
-        self._hold(home, handle, lib.bidigrid_document_free)
         self._site, self._width, self._base = int(site), int(width), base
 
     @property

@@ -37,14 +37,11 @@ class Picture(Held):
     def __init__(self, text: str, width: int, base: Base = "auto", wide_ambiguous: bool = False) -> None:
         characters = given.characters(text)
         home = here()
-        made = ffi.new("bidigrid_picture *")
-        must(
-            lib.bidigrid_picture_new(
-                made, home.tables(wide_ambiguous), given.small(width), given.base(base), characters, len(characters)
-            )
-        )
+        made, tables = ffi.new("bidigrid_picture *"), home.tables(wide_ambiguous)
         self._hold(home, made, lib.bidigrid_picture_free)
         self._width = int(width)
+        how = (tables, given.small(width), given.base(base), characters, len(characters))
+        must(lib.bidigrid_picture_new(made, *how))
         self._text = text
         self._rows: tuple[Row, ...] | None = None
 

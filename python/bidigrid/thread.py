@@ -23,10 +23,11 @@ class Home:
         """The tables of Unicode, made once."""
         wide = bool(wide_ambiguous)
         if wide not in self._tables:
-            made = ffi.new("bidigrid_tables *")
+            self._tables[wide] = ffi.new("bidigrid_tables *")
+        made = self._tables[wide]
+        if not made.held:
             must(lib.bidigrid_tables_unicode(made, wide))
-            self._tables[wide] = made
-        return self._tables[wide]
+        return made
 
     def hold(self, handle: Any, free: Callable[[Any], None]) -> int:
         """Keeps a full handle until it is freed, and returns the number that it is kept under."""
@@ -99,6 +100,7 @@ class Held:
         """Its handle, for the thread that made it."""
         if here() is not self._home:
             raise ThreadFault(f"this {type(self).__name__} belongs to the thread that made it")
+        """Keeps a handle. It comes before the handle is filled, so that it is freed whatever goes wrong from then on."""
         if self._handle is None:
             raise ValueError(f"this {type(self).__name__} is closed")
         return self._handle
@@ -121,7 +123,7 @@ class Held:
         self.close()
 
     def __del__(self) -> None:
-        # An object whose making failed, or that is closed, has no handle.
+        # An object that was never made, or that is closed, has no handle.
         if self._home is None or self._handle is None:
             return
         # A thread that is just beginning, which has no home yet, may collect it too.

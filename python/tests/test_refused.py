@@ -1,6 +1,8 @@
 """Memory that Python refuses, at each of its requests in turn: what a call did is not lost."""
 
 import gc
+import subprocess
+import sys
 from collections.abc import Callable, Iterator
 
 import pytest
@@ -68,3 +70,31 @@ def test_what_is_taken_is_told_or_said_to_be_untold(refused: Refused) -> None:
                 assert isinstance(fault, Fault) and (fault.number, fault.changes) == (9, None)
                 assert document.text == typist.text and fault.taken in (900, 0)
     assert raised > 0
+
+
+UNKEPT = """
+import resource
+from pathlib import Path
+from bidigrid import layout
+from bidigrid.thread import Home
+
+def refuse(*_):
+    raise MemoryError
+
+def held():
+    return int(Path("/proc/self/statm").read_text().split()[1]) * resource.getpagesize()
+
+text = "אבג tea\\n" * 20_000
+layout(text, 80)
+before, Home.hold = held(), refuse
+for _ in range(60):
+    try:
+        layout(text, 80)
+    except MemoryError:
+        pass
+assert held() - before < 40_000_000, held() - before
+"""
+
+
+def test_what_can_not_be_kept_is_not_made() -> None:
+    subprocess.run([sys.executable, "-c", UNKEPT], check=True, timeout=60)
