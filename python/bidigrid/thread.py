@@ -1,5 +1,6 @@
 """What a thread made stays on it: its tables, and what the library holds for its objects."""
 
+import os
 import threading
 from collections import deque
 from collections.abc import Callable
@@ -56,13 +57,16 @@ class Home:
 
 
 class _End:
-    """Goes with its thread, on that thread, and takes along what the thread made."""
+    """Goes with its thread, on that thread, and takes along what the thread made. In a forked child all other threads go at
+    once, wherever they were, so that there it frees nothing."""
 
     def __init__(self, home: Home) -> None:
         self.home = home
 
     def __del__(self) -> None:
-        self.home.end()
+        self.process = os.getpid()
+        if self.process == os.getpid():
+            self.home.end()
 
 
 class _Here(threading.local):

@@ -101,6 +101,29 @@ def test_eight_threads_at_one_document() -> None:
     assert document.text == "a" * 500 and len(refused) == 16_000
 
 
+def test_others_run_while_a_text_is_laid_out() -> None:
+    ticks, ended = 0, threading.Event()
+
+    def tick() -> None:
+        nonlocal ticks
+        while not ended.is_set():
+            ticks += 1
+            ended.wait(0.001)
+
+    ticking, interval = threading.Thread(target=tick), sys.getswitchinterval()
+    ticking.start()
+    # So none runs but while another one waits, or calls the library.
+    sys.setswitchinterval(60)
+    try:
+        before = ticks
+        picture = layout("אבג tea " * 200_000, 80)
+        assert ticks > before and picture.text
+    finally:
+        ended.set()
+        sys.setswitchinterval(interval)
+        ticking.join()
+
+
 LARGE = "אבג tea\n" * 20_000
 
 
@@ -191,4 +214,35 @@ ready.wait()
 
 def test_a_program_may_end_with_all_of_it() -> None:
     done = subprocess.run([sys.executable, "-c", ENDING], capture_output=True, timeout=60)
+    assert (done.returncode, done.stdout, done.stderr) == (0, b"", b"")
+
+
+FORKING = """
+import os, threading
+from bidigrid import Document, layout
+from bidigrid.thread import Home
+made, ended = threading.Event(), threading.Event()
+
+def keep():
+    kept = [Document(1), layout("abc", 8)]
+    made.set()
+    ended.wait()
+
+other = threading.Thread(target=keep)
+other.start()
+made.wait()
+mine, freed = Document(2), []
+Home.end = lambda home: freed.append(home)
+child = os.fork()
+if not child:
+    os._exit(len(freed))
+_, status = os.waitpid(child, 0)
+ended.set()
+other.join()
+assert status == 0 and len(freed) == 1
+"""
+
+
+def test_a_forked_child_frees_nothing_of_other_threads() -> None:
+    done = subprocess.run([sys.executable, "-W", "ignore", "-c", FORKING], capture_output=True, timeout=60)
     assert (done.returncode, done.stdout, done.stderr) == (0, b"", b"")
