@@ -12,7 +12,7 @@ from .position import Positions
 from .room import filled, written
 from .taking import faulty_frame, merged, taken
 from .thread import here
-from .window import Window, shown_rows
+from .window import Window, shown
 
 
 class Identifier(NamedTuple):
@@ -175,7 +175,7 @@ class Document(Positions):
         A Fault says what is wrong with it. Where a frame of it is faulty, nothing is taken. Where an operation is refused,
         those before it stay taken: the Fault has their number, `taken`, and their `changes`.
         """
-        return taken(self._full(), given.message(message))
+        return self._alone(taken, self._full(), given.message(message))
 
     def merge(self, other: "Document") -> Changes:
         """Takes all that another document of this thread has, and returns what that changed in the text, in order. After
@@ -183,7 +183,7 @@ class Document(Positions):
         and the Fault has its `changes`."""
         if not isinstance(other, Document):
             raise TypeError(f"a Document is merged with a Document, not with {type(other).__name__}")
-        return merged(self._full(), other._full())
+        return self._alone(merged, self._full(), other._full())
 
     @property
     def text(self) -> str:
@@ -231,10 +231,8 @@ class Document(Positions):
         """The rows from so many above the row of a place to so many below it, at most 1,000 each, and fewer at the text's
         ends. They cost what is shown, whatever the size of the text. An IndexError where there is no such place, or more
         rows are asked for."""
-        handle = self._full()
-        window = ffi.new("bidigrid_window *")
-        must(lib.bidigrid_document_show(handle, given.count(place), given.count(above), given.count(below), window))
-        return Window(shown_rows(handle, window.rows, self._width), window.number)
+        around = given.count(place), given.count(above), given.count(below)
+        return self._alone(shown, self._full(), self._width, *around)
 
     def __repr__(self) -> str:
         return f"<Document of site {self._site}, {self._width} columns wide>"

@@ -5,10 +5,12 @@ import threading
 from collections import deque
 from collections.abc import Callable
 from types import TracebackType
-from typing import Any, NoReturn, Self
+from typing import Any, NoReturn, Self, TypeVar
 
 from ._bidigrid import ffi, lib
 from .fault import ThreadFault, must
+
+Answer = TypeVar("Answer")
 
 
 class Home:
@@ -62,9 +64,9 @@ class _End:
 
     def __init__(self, home: Home) -> None:
         self.home = home
+        self.process = os.getpid()
 
     def __del__(self) -> None:
-        self.process = os.getpid()
         if self.process == os.getpid():
             self.home.end()
 
@@ -95,25 +97,43 @@ class Held:
     _home: Home | None = None
     _handle: Any = None
     _number: int = 0
+    _is_busy: bool = False
 
     def _hold(self, home: Home, handle: Any, free: Callable[[Any], None]) -> None:
+        """Keeps a handle. It comes before the handle is filled, so that it is freed whatever goes wrong from then on."""
         self._number = home.hold(handle, free)
         self._home, self._handle = home, handle
 
     def _full(self) -> Any:
         """Its handle, for the thread that made it."""
         if here() is not self._home:
-            raise ThreadFault(f"this {type(self).__name__} belongs to the thread that made it")
-        """Keeps a handle. It comes before the handle is filled, so that it is freed whatever goes wrong from then on."""
+            raise self._astray()
         if self._handle is None:
             raise ValueError(f"this {type(self).__name__} is closed")
+        if self._is_busy:
+            raise RuntimeError(f"this {type(self).__name__} is in the middle of a call, which something interrupts")
         return self._handle
+
+    def _alone(self, call: Callable[..., Answer], *given: Any) -> Answer:
+        """What makes calls of the library that belong together: whoever comes in between, as a signal handler, is refused."""
+        self._is_busy = True
+        try:
+            return call(*given)
+        finally:
+            self._is_busy = False
+
+    def _astray(self) -> Exception:
+        """Why this thread may not use it."""
+        name = type(self).__name__
+        if self._home is None:
+            return ValueError(f"this {name} was never made: its __init__ has to call super().__init__")
+        return ThreadFault(f"this {name} belongs to the thread that made it")
 
     def close(self) -> None:
         """Frees what it holds. Every later call but this one is a ValueError."""
         home = here()
         if home is not self._home:
-            raise ThreadFault(f"this {type(self).__name__} belongs to the thread that made it")
+            raise self._astray()
         home.free(self._number)
         self._handle = None
 

@@ -3,7 +3,8 @@
 from collections.abc import Sequence
 from typing import Any, overload
 
-from ._bidigrid import lib
+from ._bidigrid import ffi, lib
+from .fault import must
 from .row import Row, rows_of
 
 _CALLS = (lib.bidigrid_document_row, lib.bidigrid_document_entries, lib.bidigrid_document_print)
@@ -49,6 +50,8 @@ class Window(Sequence[Row]):
         return hash((self._rows, self.number))
 
 
-def shown_rows(handle: Any, count: int, width: int) -> list[Row]:
-    """The rows that a document shows."""
-    return rows_of(handle, count, width, _CALLS)
+def shown(handle: Any, width: int, *around: int) -> Window:
+    """The rows of a document round a place."""
+    window = ffi.new("bidigrid_window *")
+    must(lib.bidigrid_document_show(handle, *around, window))
+    return Window(rows_of(handle, window.rows, width, _CALLS), window.number)

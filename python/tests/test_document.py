@@ -204,6 +204,21 @@ def test_a_closed_document_is_a_value_error() -> None:
         pass
 
 
+class Unmade(Document):
+    """Forgets to make what it stands on."""
+
+    def __init__(self) -> None:
+        self.name = "mine"
+
+
+def test_what_was_never_made_says_so() -> None:
+    document = Unmade()
+    calls: Calls = [lambda: document.text, lambda: document.type(0, "a"), document.close, lambda: Document(2).merge(document)]
+    for call in calls:
+        with pytest.raises(ValueError, match="this Unmade was never made"):
+            call()
+
+
 def test_room_is_paid_in_advance() -> None:
     document = Document(1)
     document.reserve(0)
