@@ -17,7 +17,8 @@ class Caret(NamedTuple):
     """Where a caret stands in a picture.
 
     row: from the top, from 0.
-    gap: gap g is left of entry g of the row, the last gap right of its last entry.
+    gap: gap g is left of entry g of the row, at its column; the last gap is right of the last entry, which may be at the
+        width, and in a row without entries at the row's column.
     place: where in the text the next character goes, in code points.
     """
 
@@ -39,9 +40,9 @@ class Picture(Held):
         home = here()
         made, tables = ffi.new("bidigrid_picture *"), home.tables(wide_ambiguous)
         self._hold(home, made, lib.bidigrid_picture_free)
-        self._width = int(width)
         how = (tables, given.small(width), given.base(base), characters, len(characters))
         must(lib.bidigrid_picture_new(made, *how))
+        self._width = int(width)
         self._text = text
         self._rows: tuple[Row, ...] | None = None
 

@@ -12,8 +12,8 @@ from .thread import Held
 class Position(NamedTuple):
     """Where a caret stands in a document.
 
-    row: the first place of its row.
-    gap: gap g is left of entry g of the row, the last gap right of its last entry.
+    row: the first place of its row, by which `Document.rows` shows it: its place may be in the next row.
+    gap: as of a `Caret`.
     place: where in the text the next character goes, in code points.
     """
 
