@@ -35,6 +35,7 @@ __all__ = [
     "Position",
     "Row",
     "ThreadFault",
+    "UNICODE_VERSION",
     "Window",
     "layout",
 ]

@@ -100,7 +100,10 @@ class Held:
     _is_busy: bool = False
 
     def _hold(self, home: Home, handle: Any, free: Callable[[Any], None]) -> None:
-        """Keeps a handle. It comes before the handle is filled, so that it is freed whatever goes wrong from then on."""
+        """Keeps a handle, in place of the one that it had if it is made anew. It comes before the handle is filled, so that
+        it is freed whatever goes wrong from then on."""
+        if self._handle is not None:
+            self.close()
         self._number = home.hold(handle, free)
         self._home, self._handle = home, handle
 

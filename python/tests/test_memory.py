@@ -8,6 +8,7 @@ from collections.abc import Callable
 
 import pytest
 from bidigrid import Document, Entry, Fault, Identifier, Position, Window, layout
+from bidigrid.thread import here
 from process import held
 
 CALLS = 100_000
@@ -33,6 +34,13 @@ def test_values_are_pickled() -> None:
     for value in (told, told[0], Identifier(1, 2), Position(0, 0, 0), window[0].entries[0], window[0]):
         assert pickle.loads(pickle.dumps(value)) == value == copy.deepcopy(value)
     assert isinstance(window[0].entries[0], Entry)
+
+
+def test_what_is_made_anew_frees_what_it_held() -> None:
+    document, kept = Document(1), len(here()._held)
+    document.type(0, "abc")
+    Document.__init__(document, 2, width=8)
+    assert (document.site, document.width, document.text) == (2, 8, "") and len(here()._held) == kept
 
 
 def call_all(document: Document, other: Document, times: int) -> None:
