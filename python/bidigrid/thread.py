@@ -62,6 +62,8 @@ class _End:
     """Goes with its thread, on that thread, and takes along what the thread made. In a forked child all other threads go at
     once, wherever they were, so that there it frees nothing."""
 
+    process = 0  # none, until it is made whole
+
     def __init__(self, home: Home) -> None:
         self.home = home
         self.process = os.getpid()

@@ -7,6 +7,7 @@ from collections.abc import Callable, Iterator
 
 import pytest
 from bidigrid import Document, Fault
+from bidigrid.thread import Home, _End
 
 Call = Callable[[], object]
 
@@ -70,6 +71,15 @@ def test_what_is_taken_is_told_or_said_to_be_untold(refused: Refused) -> None:
                 assert isinstance(fault, Fault) and (fault.number, fault.changes) == (9, None)
                 assert document.text == typist.text and fault.taken in (900, 0)
     assert raised > 0
+
+
+def test_a_thread_that_can_not_begin_ends_in_silence(refused: Refused, monkeypatch: pytest.MonkeyPatch) -> None:
+    ignored, home, raised = list[object](), Home(), 0
+    monkeypatch.setattr(sys, "unraisablehook", ignored.append)
+    for number in range(REQUESTS):
+        made: list[object] = [None]
+        raised += refused(number, lambda: made.__setitem__(0, _End(home))) is not None
+    assert 0 < raised < REQUESTS and ignored == []
 
 
 UNKEPT = """
