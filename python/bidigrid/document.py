@@ -134,7 +134,7 @@ class Document(Positions):
     def keep_rows(self, rows: int) -> None:
         """Keeps rows once they are laid out, in the memory of so many, at most 1,000,000, or of those of four windows where
         these are more, each counted with 20 bytes for each column. Where all rows of a text are kept, only what
-        changes is laid out again; they take 14 bytes a run. A Fault where they are more."""
+        changes is laid out again; they take 14 bytes for each run of like clusters. A Fault where they are more."""
         must(lib.bidigrid_document_keep_rows(self._full(), given.count(rows)))
 
     def type(self, place: int, text: str) -> bytes:
