@@ -111,13 +111,21 @@ class Held:
 
     def _full(self) -> Any:
         """Its handle, for the thread that made it."""
-        if here() is not self._home:
-            raise self._astray()
+        self._at_home()
         if self._handle is None:
             raise ValueError(f"this {type(self).__name__} is closed")
+        return self._handle
+
+    def _at_home(self) -> Home:
+        """The home of this thread, where it has to be its own and in no other call."""
+        home = here()
+        if self._home is None:
+            raise ValueError(f"this {type(self).__name__} was never made: its __init__ has to call super().__init__")
+        if home is not self._home:
+            raise ThreadFault(f"this {type(self).__name__} belongs to the thread that made it")
         if self._is_busy:
             raise RuntimeError(f"this {type(self).__name__} is in the middle of a call, which something interrupts")
-        return self._handle
+        return home
 
     def _alone(self, call: Callable[..., Answer], *given: Any) -> Answer:
         """What makes calls of the library that belong together: whoever comes in between, as a signal handler, is refused."""
@@ -127,19 +135,9 @@ class Held:
         finally:
             self._is_busy = False
 
-    def _astray(self) -> Exception:
-        """Why this thread may not use it."""
-        name = type(self).__name__
-        if self._home is None:
-            return ValueError(f"this {name} was never made: its __init__ has to call super().__init__")
-        return ThreadFault(f"this {name} belongs to the thread that made it")
-
     def close(self) -> None:
         """Frees what it holds. Every later call but this one is a ValueError."""
-        home = here()
-        if home is not self._home:
-            raise self._astray()
-        home.free(self._number)
+        self._at_home().free(self._number)
         self._handle = None
 
     def __enter__(self) -> Self:

@@ -18,6 +18,7 @@ def test_what_comes_into_the_middle_of_a_call_is_refused(monkeypatch: pytest.Mon
             lambda: document.take(HEADER + A_AT_1),
             lambda: document.rows(),
             lambda: document.text,
+            document.close,
         ]
         for call in calls:
             with pytest.raises(RuntimeError, match="this Document is in the middle of a call"):
