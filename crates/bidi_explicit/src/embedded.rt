@@ -47,7 +47,7 @@ impl Model for Embedded {
 }
 
 impl Embedded {
-    /// That of no paragraph, to be put another in its place. Takes no memory.
+    /// What the rules make of no paragraph, until `embed` puts one in its place. Takes no memory.
     pub fn new(alloc: Global) -> Embedded
         ensures level { result.level ≡ 0 }
         ensures places { result.places ≡ [] }

@@ -31,7 +31,7 @@ pub struct Outline {
 }
 
 impl Outline {
-    /// That of no clusters. Takes no memory.
+    /// The outline of no clusters. Takes no memory.
     pub fn new(alloc: Global) -> Outline
         ensures runs { result.runs.items ≡ [] }
         ensures opportunities { result.opportunities.items ≡ [] }
