@@ -12,8 +12,8 @@ from typing import NamedTuple
 WAIT = 0.05  # seconds, after which an escape that nothing follows is the key itself
 
 PASTE_BEGINS, PASTE_ENDS = b"\x1b[200~", b"\x1b[201~"
-SEQUENCE = re.compile(rb"\x1b(?:\[([0-9;?<]*)([@-~])|O([ -~]))")
-UNFINISHED = re.compile(rb"\x1b(?:\[[0-9;?<]*|O)?")
+SEQUENCE = re.compile(rb"\x1b(?:\[(\[|[0-?]*)([@-Z\\-~$])|O([ -~]))")
+UNFINISHED = re.compile(rb"\x1b(?:\[(?:\[|[0-?]*)|O)?")
 BY_LETTER = {
     "A": "up", "B": "down", "C": "right", "D": "left", "F": "end", "H": "home",
     "P": "f1", "Q": "f2", "R": "f3", "S": "f4", "Z": "shift-tab",
@@ -22,8 +22,10 @@ BY_NUMBER = {
     1: "home", 2: "insert", 3: "delete", 4: "end", 5: "page-up", 6: "page-down", 7: "home", 8: "end",
     11: "f1", 12: "f2", 13: "f3", 14: "f4",
 }  # fmt: skip
-BY_RXVT_LETTER = {"a": "ctrl-up", "b": "ctrl-down", "c": "ctrl-right", "d": "ctrl-left"}
+BY_RXVT_LETTER = {"a": "up", "b": "down", "c": "right", "d": "left"}
+BY_CONSOLE_LETTER = {"A": "f1", "B": "f2", "C": "f3", "D": "f4"}
 MODIFIERS = ("shift-", "alt-", "ctrl-")
+HELD = {"~": 0, "$": 1, "^": 4, "@": 5}  # what rxvt says by the last character, as bits of these
 CONTROLS = {0: "mark", 8: "backspace", 127: "backspace"}
 NO_TEXT = re.compile(rb"[\x00-\x08\x0b\x0c\x0e-\x1f\x7f]")
 CONTROL = re.compile("[\x00-\x08\x0b-\x1f\x7f-\x9f]")
@@ -130,13 +132,18 @@ class Keys:
 def named(match: re.Match[bytes]) -> str | None:
     """The name of a sequence's key, with what was held down; none if it has no meaning here."""
     numbers, letter, application = ((part or b"").decode() for part in match.groups())
+    arrow = BY_RXVT_LETTER.get(application or letter)
+    if arrow and not numbers:
+        return f"ctrl-{arrow}" if application else f"shift-{arrow}"
     if application:
-        return BY_RXVT_LETTER.get(application) or BY_LETTER.get(application)
+        return BY_LETTER.get(application)
+    if numbers == "[":
+        return BY_CONSOLE_LETTER.get(letter)
     given = [int(number) if number.isdecimal() else 1 for number in numbers.split(";")]
-    name = BY_NUMBER.get(given[0]) if letter in "~^$" else BY_LETTER.get(letter)
+    name = BY_NUMBER.get(given[0]) if letter in HELD else BY_LETTER.get(letter)
     if name is None:
         return None
-    held = given[1] - 1 if len(given) > 1 else {"^": 4, "$": 1}.get(letter, 0)
+    held = given[1] - 1 if len(given) > 1 else HELD.get(letter, 0)
     return "".join(word for bit, word in enumerate(MODIFIERS) if held >> bit & 1) + name
 
 

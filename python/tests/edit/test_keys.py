@@ -13,9 +13,14 @@ ROWS = [
     (b"\x1b[H\x1b[4~\x1bOF\x1b[7~", [Key("home"), Key("end"), Key("end"), Key("home")]),
     (b"\x1b[3~\x1b[5~\x1b[6~\x1b[1;2H", [Key("delete"), Key("page-up"), Key("page-down"), Key("shift-home")]),
     (b"\x1bOQ\x1b[13~", [Key("f2"), Key("f3")]),
+    # As `infocmp rxvt-unicode` and `infocmp linux` have them.
+    (b"\x1b[d\x1b[c\x1b[7$\x1b[8$", [Key("shift-left"), Key("shift-right"), Key("shift-home"), Key("shift-end")]),
+    (b"\x1b[5$\x1b[3$\x1b[8^a", [Key("shift-page-up"), Key("shift-delete"), Key("ctrl-end"), Key("text", "a")]),
+    (b"\x1b[[A\x1b[[B\x1b[[Ca", [Key("f1"), Key("f2"), Key("f3"), Key("text", "a")]),
     (b"a\x1b[200~one\r\ntwo\x1b[A\r\x1b[201~b", [Key("text", "a"), Key("paste", "one\ntwo\x1b[A\n"), Key("pasted"),
                                                    Key("text", "b")]),
     (b"\x1b[99~\x1b[Ia", [Key("text", "a")]),
+    (b"\x1b[97;5:3u\x1b[>1;2c\x1b[[Ea", [Key("text", "a")]),
     (b"\x1b\x1b[A", [Key("escape"), Key("up")]),
 ]
 
