@@ -31,6 +31,11 @@ def before(document: Document, place: int) -> Identifier | None:
     return document.id_at(place - 1) if place else None
 
 
+def character_at(document: Document, place: int) -> Identifier | None:
+    """The character that a place stands before; none at the text's end."""
+    return document.id_at(place) if place < len(document) else None
+
+
 def column_of_gap(row: Row, gap: int) -> int:
     """The column where a gap of a row is seen."""
     if gap < len(row.entries):
@@ -42,7 +47,7 @@ def column_of_gap(row: Row, gap: int) -> int:
 
 def between(document: Document, place: int) -> Between:
     """The characters before a place and behind it; none at an end of the text."""
-    return before(document, place), document.id_at(place) if place < len(document) else None
+    return before(document, place), character_at(document, place)
 
 
 def places_of_gap(row: Row, gap: int) -> set[int]:

@@ -83,23 +83,24 @@ class Desk:
         """Erases a range and types a text where it began, as a part of an edit where it joins one; answers the edit."""
         if start == stop and not text:
             return joined
+        behind = carets.character_at(self.document, stop) if start < stop else None
         message = self.document.replace(start, min(stop, start + LONG), text)
-        edit = self.edits.add(message, text, joined)
+        edit = self.edits.add(message, text, joined, behind)
         self.made(message)
         if stop - start > LONG:
             start, stop = start + len(text), stop - LONG + len(text)
             ends = self.document.id_at(start), self.document.id_at(stop - 1)
             self.leaving.append(ends)
-            self.begin_job(self.erase(ends, edit))
+            self.begin_job(self.erase(ends, edit, behind))
         return edit
 
-    def erase(self, ends: Ends, edit: Edit) -> Iterator[None]:
+    def erase(self, ends: Ends, edit: Edit, behind: Identifier | None) -> Iterator[None]:
         """Erases the rest of a long range in pieces, the first ones first. What others send waits meanwhile, so that what
         they have written in it stays."""
         start, stop = self.places_of(ends)
         while start < stop:
             message = self.document.erase(start, min(stop, start + LONG))
-            self.edits.add(message, "", edit)
+            self.edits.add(message, "", edit, behind)
             self.made(message)
             yield
             start, stop = self.places_of(ends)
@@ -247,4 +248,3 @@ class Desk:
         if self.carrier:
             self.carrier.close()
         self.log.close()
-

@@ -5,35 +5,44 @@ from __future__ import annotations
 import dataclasses
 import itertools
 from collections.abc import Callable, Iterable, Iterator
+from typing import NamedTuple
 
 from .. import Document, Identifier
-from .carets import is_seen, place_behind
+from .carets import character_at, is_seen, place_behind
 from .frames import Operation, Sought, last_identifier, operations
 
 AT_ONCE = 250  # characters that are taken back at once
 
 Made = Callable[[bytes], None]
+Take = Callable[..., None]
 Kept = Callable[[], Iterable[bytes]]
 
 
-@dataclasses.dataclass
-class Edit:
-    """The messages of what was typed and erased at once; an open one is a word that is still typed."""
+class Part(NamedTuple):
+    """A message of an edit, and the character that stood behind what it erased; none at the text's end."""
 
-    messages: list[bytes]
+    message: bytes
+    behind: Identifier | None = None
+
+
+@dataclasses.dataclass(eq=False)
+class Edit:
+    """What was typed and erased at once, in the order of the text; an open one is a word that is still typed."""
+
+    parts: list[Part]
     is_open: bool
 
 
 @dataclasses.dataclass
 class Return:
-    """What was erased side by side: where it stood, and under which identifiers."""
+    """What was erased side by side: where it is to stand, and under which identifiers it stood."""
 
     place: int
     old: list[Identifier]
 
 
-Lists = tuple[list[Edit], list[Edit]]
-"""The edits of which one is taken back, and those to which belongs what that does."""
+Erased = tuple[Identifier, int]
+"""A character that was erased, and the number of the part that did it."""
 
 
 class Edits:
@@ -45,22 +54,22 @@ class Edits:
         self.undone: list[Edit] = []
         self.renamed: dict[Identifier, Identifier] = {}
 
-    def add(self, message: bytes, typed: str, joined: Edit | None = None) -> Edit:
-        """Keeps what a message says, as a part of an edit where it joins one. Characters of a word that are typed one after
-        the other are one edit."""
-        first = next(operations(message))
+    def add(self, message: bytes, typed: str, joined: Edit | None = None, behind: Identifier | None = None) -> Edit:
+        """Keeps what a message says, as a part of an edit where it joins one, and what stood behind what it erased. Characters
+        of a word that are typed one after the other are one edit."""
+        first, part = next(operations(message)), Part(message, behind)
         is_key = len(typed) == 1 and first.character is not None
         last = self.made[-1] if self.made else None
         # What is done in another way now isn't done again.
         self.undone = []
         if joined:
-            joined.messages.append(message)
+            joined.parts.append(part)
             return joined
-        if last and last.is_open and is_key and first.parent == last_identifier(last.messages[-1]):
-            last.messages.append(message)
+        if last and last.is_open and is_key and first.parent == last_identifier(last.parts[-1].message):
+            last.parts.append(part)
             last.is_open = not typed.isspace()
         else:
-            self.made.append(Edit([message], is_key))
+            self.made.append(Edit([part], is_key))
         return self.made[-1]
 
     def close(self) -> None:
@@ -79,47 +88,49 @@ class Edits:
         was, or nothing where nothing was seen. `now` has the document, `kept` the operations of the text, and `made` takes new
         messages. These are an edit, which can be taken back in turn."""
         source, target = (self.undone, self.made) if again else (self.made, self.undone)
-        edit = source.pop() if source else None
-        return self.take_out(edit, len(source), (source, target), now, made, kept)
+        last, back = [source.pop()] if source else [], Edit([], False)
+        if last:
+            # It is there at once, so that what is pressed meanwhile is about this.
+            target.append(back)
+        return self.take_out(itertools.chain(last, those_before(source, len(source))), back, target, now, made, kept)
 
     def take_out(
-        self, edit: Edit | None, at: int, lists: Lists, now: Callable[[], Document], made: Made, kept: Kept
+        self, edits: Iterator[Edit], back: Edit, target: list[Edit], now: Callable[[], Document], made: Made, kept: Kept
     ) -> Iterator[int | None]:
-        """Takes an edit back, or where nothing of it is seen the one before, and so on: that which stands before `at`."""
-        source, target = lists
-        back, is_done = Edit([], False), False
-        piece: list[bytes] = []
+        """Takes the first of some edits back of which something is seen. What that does is `back`, which is one of `target`
+        where it does anything."""
+        is_done = False
+        piece: list[Part] = []
 
-        def take(message: bytes) -> None:
-            piece.append(message)
+        def take(message: bytes, behind: Identifier | None = None) -> None:
+            piece.append(Part(message, behind))
             made(message)
 
-        while edit and not is_done:
+        while not is_done and (edit := next(edits, None)):
             for place in itertools.chain(self.erase(now(), take, edit), self.type(now(), take, edit, kept)):
                 is_done = is_done or place is not None
                 # A piece goes from its last range to the first, and an edit has them in the order of the text.
-                back.messages += reversed(piece)
+                back.parts += reversed(piece)
                 piece.clear()
                 yield place
-            at = min(at, len(source)) - 1
-            edit = source.pop(at) if at >= 0 and not is_done else None
-        if back.messages:
-            target.append(back)
+        if not back.parts and back in target:
+            target.remove(back)
 
-    def erase(self, document: Document, made: Made, edit: Edit) -> Iterator[int | None]:
+    def erase(self, document: Document, take: Take, edit: Edit) -> Iterator[int | None]:
         """Erases what an edit typed."""
         for some in batches(edit):
             place = None
-            typed = (self.now(it.identifier) for it in some if it.character is not None)
+            typed = (self.now(it.identifier) for it, _ in some if it.character is not None)
             for place, stop in stretches(document, typed):
-                made(document.erase(place, stop))
+                behind = character_at(document, stop)
+                take(document.erase(place, stop), behind)
             yield place
 
-    def type(self, document: Document, made: Made, edit: Edit, kept: Kept) -> Iterator[int | None]:
+    def type(self, document: Document, take: Take, edit: Edit, kept: Kept) -> Iterator[int | None]:
         """Types again what it erased."""
         sought = Sought()
         for some in erasures(edit):
-            sought.want(some)
+            sought.want([identifier for identifier, _ in some])
             yield None
         if not sought.count:
             return
@@ -128,38 +139,68 @@ class Edits:
             if sought.look(message):
                 break
             yield None
-        batch: list[Identifier] = []
-        last = None
+        batch: list[Erased] = []
+        bound, last = Bound(edit, self.now), None
         for following in itertools.chain(erasures(edit), [None]):
             if not batch or following == []:
                 batch = following or batch
                 yield None
                 continue
-            gone = returns(document, batch)
+            gone = returns(document, batch, bound)
             # Where what is side by side goes on in the next batch, so does what is typed.
-            goes_on = following and document.place_of(following[0]) == document.place_of(batch[-1])
+            goes_on = following and returns(document, following[:1], bound)[0].place == gone[-1].place
             if last:
                 gone[0].place = place_behind(document, last) or 0
             for stretch in reversed(gone):
                 message = document.type(stretch.place, "".join(sought.found[it] for it in stretch.old))
                 self.renamed.update(zip(stretch.old, (it.identifier for it in operations(message))))
-                made(message)
-            last = self.renamed[batch[-1]] if goes_on else None
-            yield place_behind(document, self.renamed[batch[-1]])
+                take(message)
+            typed = self.renamed[batch[-1][0]]
+            last = typed if goes_on else None
+            yield place_behind(document, typed)
             batch = following or []
 
 
-def batches(edit: Edit) -> Iterator[list[Operation]]:
-    """The operations of an edit, in the order of the text, some at once."""
-    all_of_it = itertools.chain.from_iterable(map(operations, edit.messages))
+class Bound:
+    """Up to where parts of an edit can have stood that it erased: each before what stood behind it, or behind a later one. What
+    was typed again since stands before all that is erased at its place, also where that stood before it."""
+
+    def __init__(self, edit: Edit, now: Callable[[Identifier], Identifier]) -> None:
+        self.parts = edit.parts
+        self.now = now
+        self.at = 0
+
+    def of(self, document: Document, part: int) -> int:
+        """The place up to which this part stood. The parts are asked for in their order."""
+        self.at = max(self.at, part)
+        while self.at < len(self.parts):
+            if behind := self.parts[self.at].behind:
+                identifier = self.now(behind)
+                place = document.place_of(identifier)
+                if is_seen(document, identifier, place):
+                    return place
+            self.at += 1
+        return len(document)
+
+
+def those_before(edits: list[Edit], at: int) -> Iterator[Edit]:
+    """The edits of a list before one of its places, from the last on, each taken out of it when it is asked for."""
+    while at := min(at, len(edits)):
+        at -= 1
+        yield edits.pop(at)
+
+
+def batches(edit: Edit) -> Iterator[list[tuple[Operation, int]]]:
+    """The operations of an edit, in the order of the text, some at once, each with the number of its part."""
+    all_of_it = ((it, number) for number, part in enumerate(edit.parts) for it in operations(part.message))
     while some := list(itertools.islice(all_of_it, AT_ONCE)):
         yield some
 
 
-def erasures(edit: Edit) -> Iterator[list[Identifier]]:
+def erasures(edit: Edit) -> Iterator[list[Erased]]:
     """What an edit erases, some at once, or none."""
     for some in batches(edit):
-        yield [it.identifier for it in some if it.character is None]
+        yield [(it.identifier, part) for it, part in some if it.character is None]
 
 
 def stretches(document: Document, typed: Iterable[Identifier]) -> list[tuple[int, int]]:
@@ -176,13 +217,15 @@ def stretches(document: Document, typed: Iterable[Identifier]) -> list[tuple[int
     return sorted(found, reverse=True)
 
 
-def returns(document: Document, erased: list[Identifier]) -> list[Return]:
+def returns(document: Document, erased: list[Erased], bound: Bound) -> list[Return]:
     """What is to be typed again: where it stood, the first first."""
     found: list[Return] = []
-    for identifier in erased:
-        place = document.place_of(identifier)
-        if found and found[-1].place == place:
-            found[-1].old.append(identifier)
-        else:
-            found.append(Return(place, [identifier]))
+    for part, some in itertools.groupby(erased, lambda it: it[1]):
+        end = bound.of(document, part)
+        for identifier, _ in some:
+            place = min(end, document.place_of(identifier))
+            if found and found[-1].place == place:
+                found[-1].old.append(identifier)
+            else:
+                found.append(Return(place, [identifier]))
     return found

@@ -160,6 +160,27 @@ def test_what_others_wrote_stays_where_an_edit_is_done_again(pair: Pair) -> None
     assert pair.desk.document.text.replace("Y", "") == "miXlk"
 
 
+def test_what_is_erased_or_typed_bit_by_bit_comes_back_in_its_order(pair: Pair) -> None:
+    pair.press("'tea milk'", "home", *["delete"] * 8, *["ctrl-z"] * 8)
+    assert pair.desk.document.text == "tea milk"
+    pair.press(*["ctrl-y"] * 8, *["ctrl-z"] * 5)
+    assert pair.desk.document.text == " milk"
+    pair.press("ctrl-a", "delete", "'b'", "home", "'a'", "end", "'c'", *["ctrl-z"] * 3)
+    assert pair.desk.document.text == ""
+    pair.press(*["ctrl-y"] * 3)
+    assert pair.desk.document.text == "abc"
+
+
+def test_what_comes_back_stands_in_its_order_among_what_others_wrote(pair: Pair) -> None:
+    pair.press("'tea milk'", "home", *["delete"] * 4)
+    pair.meet()
+    pair.take(pair.other.type(0, "(hot)"))
+    pair.press("end", *["backspace"] * 4)
+    assert pair.desk.document.text == "(hot)"
+    pair.press(*["ctrl-z"] * 8)
+    assert pair.desk.document.text.replace("(hot)", "") == "tea milk"
+
+
 def test_what_is_copied_is_typed_elsewhere_as_it_is_read(pair: Pair) -> None:
     pair.press("'ab שלום cd'", "ctrl-c")
     assert (pair.desk.notice, pair.editor.clipboard.tell()) == ("", b"")

@@ -102,6 +102,25 @@ def test_a_key_is_written_while_a_paste_is_taken_back(editor: Editor) -> None:
     assert finish(editor) > 1 and editor.document.text == "x" and editor.at.place == 1
 
 
+def test_what_is_pressed_meanwhile_is_about_what_is_being_taken_back(editor: Editor) -> None:
+    text = LONG[:2000]
+    press(editor, "'before'", "home")
+    paste(editor, text)
+    press(editor, "ctrl-z", "ctrl-y")
+    assert editor.desk.jobs
+    finish(editor)
+    assert (editor.document.text, editor.desk.notice) == (f"{text}before", "")
+    press(editor, "ctrl-z", "ctrl-y", "ctrl-z", "ctrl-z", "ctrl-y")
+    finish(editor)
+    assert editor.document.text == "before"
+    press(editor, "ctrl-y", "ctrl-z")
+    finish(editor)
+    assert editor.document.text == "before"
+    press(editor, "ctrl-y", "ctrl-home", "'!'")
+    finish(editor)
+    assert editor.document.text == f"!{text}before"
+
+
 def test_a_key_is_written_while_much_that_was_copied_is_typed(editor: Editor) -> None:
     paste(editor, LONG * 4)
     press(editor, "ctrl-a", "ctrl-x")

@@ -6,11 +6,14 @@ import shutil
 from pathlib import Path
 
 import pytest
-from bidigrid import layout
+from bidigrid import Document, layout
+from bidigrid.edit import desk as desks_module
+from bidigrid.edit import undo
+from bidigrid.edit.channel import Message
 from bidigrid.edit.editor import Editor
 from bidigrid.edit.keys import Key
 from bidigrid.edit.view import view_of
-from desks import in_folder, look
+from desks import desk_at, in_folder, look
 from program import text_of
 
 KEYS = 10_000
@@ -95,3 +98,37 @@ def test_random_keys_at_three_desks(tmp_path: Path, seed: int) -> None:
     for desk in desks:
         desk.close()
     shutil.rmtree(tmp_path)
+
+
+@pytest.mark.parametrize("seed", range(20))
+def test_all_is_taken_back_and_done_again_step_by_step(tmp_path: Path, seed: int, monkeypatch: pytest.MonkeyPatch) -> None:
+    # Short pieces meet within words.
+    monkeypatch.setattr(undo, "AT_ONCE", 3)
+    monkeypatch.setattr(desks_module, "LONG", 4)
+    chance = random.Random(seed)
+    desk, other = desk_at(tmp_path / "notes.bgop", site=1), Document(2)
+    editor = Editor(desk, HEIGHT, "")
+
+    def press(key: Key) -> str:
+        editor.press(key)
+        while desk.jobs:
+            editor.turn()
+        return desk.document.text.replace("*", "")
+
+    def write() -> None:
+        desk.log.flush()
+        other.take(desk.log.read(0, desk.log.size))
+        desk.take(Message("another", other.type(chance.randint(0, len(other)), "*")))
+        editor.is_stale = True
+
+    for _ in range(40):
+        press(drawn_key(chance))
+    seen = [press(Key("escape"))]
+    while desk.notice != "nothing to take back":
+        write()
+        seen.append(press(Key("ctrl-z")))
+    assert seen.pop() == seen[-1] == ""
+    for wanted in seen[-2::-1]:
+        write()
+        assert press(Key("ctrl-y")) == wanted
+    desk.close()
