@@ -207,10 +207,16 @@ class Editor(Seeking):
         self.desk.is_changed = True
 
     def leave(self) -> None:
-        """Leaves once all is flushed; at the second time also where it can't be."""
-        self.is_left = self.is_leaving or self.is_warned or not self.desk.log.waiting
+        """Leaves once all is done and flushed; at the second time also where it can't be."""
+        self.is_left = self.is_left or self.is_leaving or self.is_warned or self.is_done()
         self.is_leaving = not self.is_left
         self.desk.failed_at = 0.0
+        if self.desk.jobs:
+            self.desk.notice = "what was begun is done first: Ctrl-Q again leaves it half done"
+
+    def is_done(self) -> bool:
+        """Whether all that keys have begun is done and flushed."""
+        return not (self.desk.jobs or self.desk.log.waiting)
 
     def turn(self) -> None:
         """A turn of the desk: stays at one's character where that brings something, and leaves where one wants to."""
@@ -218,4 +224,4 @@ class Editor(Seeking):
         if self.is_leaving and self.desk.failed_at:
             self.is_leaving, self.is_warned = False, True
             self.desk.notice = "what you typed last is in no file: Ctrl-S writes the text, Ctrl-Q again leaves without it"
-        self.is_left = self.is_left or self.is_leaving and not self.desk.log.waiting
+        self.is_left = self.is_left or self.is_leaving and self.is_done()

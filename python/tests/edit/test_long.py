@@ -121,6 +121,20 @@ def test_what_is_pressed_meanwhile_is_about_what_is_being_taken_back(editor: Edi
     assert editor.document.text == f"!{text}before"
 
 
+def test_what_is_going_on_is_done_before_one_leaves(editor: Editor) -> None:
+    paste(editor, LONG[:2000])
+    press(editor, "ctrl-a", "delete", "ctrl-z")
+    editor.desk.log.flush()
+    press(editor, "ctrl-q")
+    while not editor.is_left:
+        assert "is done first" in view_of(editor).status
+        editor.turn()
+    assert editor.document.text == LONG[:2000] and not editor.desk.log.waiting
+    editor.is_left = editor.is_leaving = False
+    press(editor, "ctrl-z", "ctrl-q", "ctrl-q", "ctrl-q")
+    assert editor.is_left and editor.desk.jobs
+
+
 def test_a_key_is_written_while_much_that_was_copied_is_typed(editor: Editor) -> None:
     paste(editor, LONG * 4)
     press(editor, "ctrl-a", "ctrl-x")
