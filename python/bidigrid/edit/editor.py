@@ -58,6 +58,8 @@ class Editor(Seeking):
         self.pressed += 1
         self.is_helping = key.name == "f1" and not self.is_helping
         try:
+            if self.is_seeking and key.name == "ctrl-v":
+                key = Key("paste", self.clipboard.text)
             left = self.seek(key) if self.is_seeking else key
             if not left:
                 self.goal = None

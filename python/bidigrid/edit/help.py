@@ -9,7 +9,7 @@ arrows, Home, End, Page Up and Down: move; with Ctrl by words, and to the ends o
 Shift and a move, Ctrl-Space, Ctrl-A: select
 Ctrl-C, Ctrl-X, Ctrl-V: copy, cut, paste
 Ctrl-Z, Ctrl-Y: take one's own last edit back, do it again
-Ctrl-F: find
+Ctrl-F: find a word, and its next place; Ctrl-R then: the one before
 F2, F3: the base direction; the width of ambiguous characters
 Ctrl-S: write the plain text to a file
 Ctrl-L, Ctrl-Q: draw anew, leave

@@ -3,10 +3,18 @@
 from __future__ import annotations
 
 from collections.abc import Sequence
+from typing import NamedTuple
 
 from .. import Document, Identifier, Position, Row
 from . import carets, moves
 from .desk import Desk
+
+
+class Stand(NamedTuple):
+    """Where one stood: between which characters, and at which edge."""
+
+    between: carets.Between
+    at: Position
 
 
 class Standing:
@@ -52,6 +60,16 @@ class Standing:
         """Stays with the character before a place."""
         self.between = carets.between(self.document, place)
         self.desk.caret = self.between[0]
+
+    def standing(self) -> Stand:
+        """Where one stands now."""
+        return Stand(between=self.between, at=self.at)
+
+    def stand_again(self, stood: Stand) -> None:
+        """Stands there again, at the same edge."""
+        self.between, self.found = stood
+        self.desk.caret = self.between[0]
+        self.is_stale, self.is_typed = True, False
 
     def settle(self) -> None:
         """Finds the caret, at its character and at its edge, and has it on the screen, after the text has changed."""

@@ -241,6 +241,60 @@ def test_a_word_is_found_while_it_is_typed(pair: Pair) -> None:
     assert pair.text().replace("|", "") == "tea, cake, tea and team" and view_of(pair.editor).status.startswith("find: milk (")
 
 
+def test_a_word_is_found_in_both_directions_and_round_the_ends(pair: Pair) -> None:
+    pair.press("'tea tea tea'", "ctrl-left", "ctrl-left", "ctrl-f", "'tea'")
+    assert pair.editor.selected() == (4, 7)
+    for key, start, remark in [("ctrl-f", 8, ""), ("ctrl-f", 0, " (round the end)"), ("ctrl-f", 4, ""),
+                               ("ctrl-r", 0, ""), ("ctrl-r", 8, " (round the end)"), ("ctrl-r", 4, "")]:  # fmt: skip
+        pair.press(key)
+        assert pair.editor.selected() == (start, start + 3)
+        assert view_of(pair.editor).status.startswith(f"find: tea{remark} |")
+    pair.press("escape", "ctrl-f", "ctrl-r")
+    assert pair.editor.selected() == (0, 3)
+
+
+def test_a_word_of_small_letters_is_found_in_any_case(pair: Pair) -> None:
+    pair.press("'\u0130 Tea tea ÉTÉ'", "ctrl-home", "ctrl-f", "'tea'")
+    assert pair.editor.selected() == (2, 5)
+    pair.press("ctrl-f", "escape", "ctrl-f", "'Tea'", "ctrl-f")
+    assert pair.editor.selected() == (2, 5)
+    pair.press("escape", "ctrl-f", "'été'")
+    assert pair.editor.selected() == (10, 13)
+
+
+def test_what_is_found_is_selected_in_whole_clusters(pair: Pair) -> None:
+    pair.press("'ae\u0301 ש\u05b8ל'", "ctrl-home", "ctrl-f", "'e'")
+    assert pair.editor.selected() == (1, 3)
+    pair.press("backspace", "'\u0301'", "ctrl-f")
+    assert pair.editor.selected() == (1, 3)
+    pair.press("escape", "ctrl-f", "'ש'", "'\n'", "'x'")
+    assert pair.text() == "ae\u0301 x|ל"
+
+
+def test_what_is_pressed_while_a_word_is_asked_for_is_about_the_word(pair: Pair) -> None:
+    pair.press("'tea milk'", "shift-ctrl-left", "ctrl-c", "ctrl-home", "ctrl-f", "ctrl-v")
+    assert pair.editor.word == "milk" and pair.editor.selected() == (4, 8)
+    pair.press("ctrl-a", "delete", "backspace", "'k'")
+    assert pair.desk.document.text == "tea milk" and pair.editor.selected() == (4, 8)
+    pair.press("escape", "end", "'\n12'", "ctrl-home", "ctrl-f")
+    for piece in ("lk\n", "1"):
+        pair.editor.press(Key("paste", piece))
+    pair.editor.press(Key("pasted"))
+    assert pair.editor.selected() == (6, 10) and view_of(pair.editor).status.startswith("find: lk\\n1 |")
+    pair.editor.press(Key("paste", "x" * 1000))
+    assert view_of(pair.editor).status.startswith(f"find: ..{'x' * 40} (is not there) |")
+
+
+def test_one_stands_at_the_same_edge_again_where_no_word_is_wanted(pair: Pair) -> None:
+    # Between the two words one stands right of the Hebrew one, and not where Latin would go on.
+    pair.press("'ab שלום'", "right", "right", "right", "right")
+    assert (pair.text(), view_of(pair.editor).column) == ("ab |שלום", 7)
+    pair.press("ctrl-f", "'a'", "escape")
+    assert (pair.text(), view_of(pair.editor).column) == ("ab |שלום", 7)
+    pair.press("ctrl-f", "'a'", "backspace", "'\n'")
+    assert (pair.text(), view_of(pair.editor).column) == ("ab |שלום", 7)
+
+
 def test_what_is_reported_is_seen_while_a_word_is_asked_for(pair: Pair) -> None:
     pair.press("ctrl-f", "'tea'")
     pair.desk.notice = "the log is not written"

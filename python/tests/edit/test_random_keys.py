@@ -22,7 +22,7 @@ WORDS = ["\n", "\t", "tea", "milk ", "שלום", "חלב ", "شاي", "حليب 
          "\u2069", "ש\u05b8", "👩\u200d👧"]  # fmt: skip
 MOVES = ["left", "right", "up", "down", "home", "end", "ctrl-left", "ctrl-right", "page-up", "page-down", "ctrl-home",
          "ctrl-end"]  # fmt: skip
-EDITS = ["backspace", "delete", "ctrl-z", "ctrl-y", "ctrl-c", "ctrl-f"]
+EDITS = ["backspace", "delete", "ctrl-z", "ctrl-y", "ctrl-c", "ctrl-f", "ctrl-r"]
 
 
 def drawn_key(chance: random.Random) -> Key:
