@@ -5,7 +5,7 @@ from __future__ import annotations
 from collections.abc import Callable, Iterator
 from typing import get_args
 
-from .. import Fault, Identifier, Position
+from .. import Fault, Identifier, Position, Row
 from ..given import Base
 from . import carets, moves
 from .clipboard import Clipboard
@@ -13,6 +13,7 @@ from .desk import LONG, Desk
 from .disk import write_whole
 from .fault import reason
 from .frames import PIECE, last_identifier
+from .help import pages_at
 from .keys import Key, plain
 from .seeking import Seeking
 from .undo import Edit
@@ -28,7 +29,8 @@ class Editor(Seeking):
         self.text_path = text_path
         self.goal: int | None = None
         self.clipboard = Clipboard()
-        self.is_left = self.is_leaving = self.is_warned = self.is_helping = False
+        self.is_left = self.is_leaving = self.is_warned = False
+        self.page = 0  # of the keys that are shown, from 1; 0 where the text is
         self.pasted: Edit | None = None
         self.pressed = 0
         self.edits: dict[str, Callable[[], None]] = {
@@ -56,7 +58,7 @@ class Editor(Seeking):
             self.desk.notice = ""
         at = None
         self.pressed += 1
-        self.is_helping = key.name == "f1" and not self.is_helping
+        self.page = (self.page + 1) % (1 + len(self.pages())) if key.name == "f1" else 0
         try:
             if self.is_seeking and key.name == "ctrl-v":
                 key = Key("paste", self.clipboard.text)
@@ -185,6 +187,10 @@ class Editor(Seeking):
             yield place + len(piece)
 
     # The rest
+
+    def pages(self) -> list[tuple[Row, ...]]:
+        """The screens of the keys."""
+        return pages_at(self.document.width, self.height)
 
     def change_base(self) -> None:
         """The next base direction."""

@@ -7,7 +7,6 @@ from typing import NamedTuple
 from .. import Row
 from . import carets
 from .editor import Editor
-from .help import keys_at
 
 NAMED = 3  # of those who are here
 
@@ -28,9 +27,11 @@ def view_of(editor: Editor) -> View:
     """What is to be seen now."""
     editor.settle()
     rows = editor.shown
-    if editor.is_helping:
-        width = editor.document.width
-        return View(width, keys_at(width, editor.height), 0, 0, (0, 0), (), status(editor))
+    if editor.page:
+        pages = editor.pages()
+        page = min(editor.page, len(pages))
+        more = f"keys, {page} of {len(pages)}: F1 goes on | " if len(pages) > 1 else ""
+        return View(editor.document.width, pages[page - 1], 0, 0, (0, 0), (), more + status(editor))
     column = carets.column_of_gap(rows[editor.line], editor.at.gap)
     seen = tuple(others(editor, rows))
     return View(editor.document.width, rows, editor.line, column, editor.selected(), seen, status(editor))

@@ -222,6 +222,27 @@ def test_much_is_copied_for_this_editor_alone(pair: Pair) -> None:
     assert pair.editor.clipboard.tell() == b"" and "too many for the terminal's clipboard" in pair.desk.notice
 
 
+def test_the_keys_are_shown_page_by_page_where_they_find_no_room(pair: Pair) -> None:
+    pair.editor.resize(80, 24)
+    pair.press("'tea'", "f1")
+    whole = view_of(pair.editor).rows
+    pair.press("f1")
+    assert str(view_of(pair.editor).rows[0]).rstrip() == "tea"
+    pair.editor.resize(12, 3)
+    pages = []
+    for _ in range(100):
+        pair.press("f1")
+        seen = view_of(pair.editor)
+        if not seen.status.startswith(f"keys, {len(pages) + 1} of "):
+            break
+        pages.append(seen.rows)
+    shown = "".join(str(row) for page in pages for row in page)
+    assert len(pages) > 1 and shown.replace(" ", "") == "".join(map(str, whole)).replace(" ", "")
+    assert str(seen.rows[0]).rstrip() == "tea" and pair.desk.document.text == "tea"
+    pair.press("f1", "f1", "escape")
+    assert str(view_of(pair.editor).rows[0]).rstrip() == "tea"
+
+
 def test_a_word_is_found_while_it_is_typed(pair: Pair) -> None:
     pair.press("'tea, milk, tea and team'", "ctrl-home", "right", "ctrl-f")
     assert view_of(pair.editor).status.startswith("find:  |")

@@ -106,7 +106,7 @@ def test_the_keys_are_shown_until_one_is_pressed(terminal: Terminal) -> None:
     pane.type("tea")
     pane.tells("3 characters")
     pane.press("F1")
-    until(lambda: pane.rows()[0].startswith("arrows,") and any("Ctrl-F: find a word" in row for row in pane.rows()), pane.screen)
+    until(lambda: pane.rows()[0].startswith("arrows,") and any("Ctrl-F: find" in row for row in pane.rows()), pane.screen)
     pane.type("s")
     pane.shows("teas")
     pane.press("F1", "F1")
