@@ -62,10 +62,14 @@ class Disk:
 def write_whole(path: str, parts: Iterable[bytes]) -> None:
     """Writes a file, whole or not at all."""
     with open(f"{path}.new", "wb") as file:
-        file.writelines(parts)
-        file.flush()
-        os.fsync(file.fileno())
-        os.replace(file.name, path)
+        try:
+            file.writelines(parts)
+            file.flush()
+            os.fsync(file.fileno())
+            os.replace(file.name, path)
+        except OSError:
+            os.unlink(file.name)
+            raise
 
 
 def write_at(file: int, data: bytes, at: int) -> None:

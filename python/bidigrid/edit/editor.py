@@ -10,11 +10,11 @@ from ..given import Base
 from . import carets, moves
 from .clipboard import Clipboard
 from .desk import LONG, Desk
-from .disk import write_whole
 from .fault import reason
 from .frames import PIECE, last_identifier
 from .help import pages_at
 from .keys import Key, plain
+from .plain_text import PlainText
 from .seeking import Seeking
 from .undo import Edit
 
@@ -27,6 +27,7 @@ class Editor(Seeking):
     def __init__(self, desk: Desk, height: int, text_path: str) -> None:
         super().__init__(desk, height)
         self.text_path = text_path
+        self.plain_text = PlainText()
         self.goal: int | None = None
         self.clipboard = Clipboard()
         self.is_left = self.is_leaving = self.is_warned = False
@@ -207,11 +208,13 @@ class Editor(Seeking):
         text = self.document.text
         # A long text is spelled in pieces, between which the thread lets others compute.
         parts = (text[at : at + PIECE].encode() for at in range(0, len(text), PIECE))
-        self.desk.log.disk.ask(self.tell_written, lambda: write_whole(self.text_path, parts))
+        self.desk.log.disk.ask(self.tell_written, lambda: self.plain_text.write(self.text_path, parts))
 
     def tell_written(self, error: OSError | None) -> None:
         """Reports what came of that."""
         self.desk.notice = f"{self.text_path} is {f'not written: {reason(error)}' if error else 'written'}"
+        if isinstance(error, FileExistsError):
+            self.desk.notice += "; Ctrl-S again writes over it"
         self.desk.is_changed = True
 
     def leave(self) -> None:

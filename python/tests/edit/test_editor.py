@@ -1,6 +1,7 @@
 """What keys do while others write: the caret stays at its character, and one's own edits alone are taken back."""
 
 import base64
+import errno
 import os
 import threading
 from collections.abc import Iterator
@@ -388,6 +389,36 @@ def test_a_text_that_can_not_be_written_is_told(pair: Pair) -> None:
     pair.press("ctrl-s")
     until(lambda: pair.desk.turn() or pair.desk.notice)
     assert pair.desk.notice == "/nowhere/notes.txt is not written: No such file or directory"
+
+
+def test_a_file_that_was_there_is_written_over_at_the_second_time(pair: Pair) -> None:
+    path = Path(pair.editor.text_path)
+    path.write_text("another's")
+
+    def told() -> str:
+        pair.press("ctrl-s")
+        until(lambda: pair.desk.turn() or pair.desk.notice)
+        return pair.desk.notice
+
+    pair.press("'tea'")
+    asked = f"{path} is not written: File exists; Ctrl-S again writes over it"
+    assert (told(), path.read_text()) == (asked, "another's")
+    assert (told(), path.read_text()) == (f"{path} is written", "tea")
+    pair.press("'m'")
+    assert (told(), path.read_text()) == (f"{path} is written", "team")
+    path.write_text("another's again")
+    assert (told(), path.read_text()) == (asked, "another's again")
+
+
+def test_what_can_not_be_written_leaves_no_other_file(pair: Pair, monkeypatch: pytest.MonkeyPatch) -> None:
+    def fail(file: int) -> None:
+        raise OSError(errno.ENOSPC, os.strerror(errno.ENOSPC))
+
+    monkeypatch.setattr(os, "fsync", fail)
+    pair.press("'tea'", "ctrl-s")
+    until(lambda: pair.desk.turn() or pair.desk.notice)
+    assert "No space left on device" in pair.desk.notice
+    assert not list(Path(pair.editor.text_path).parent.glob("notes.txt*"))
 
 
 def test_a_text_that_is_full_is_told(pair: Pair) -> None:
