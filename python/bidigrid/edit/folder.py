@@ -174,7 +174,7 @@ class Folder:
             caret = Identifier(*map(int, said["caret"])) if said["caret"] else None
             self.here[site] = Here(site, plain_name(str(said["name"])), caret, now)
             self.signs[str(site)] = sign
-        except (ValueError, TypeError, KeyError):
+        except (ValueError, TypeError, KeyError, OverflowError, RecursionError):
             return
 
     def file_of(self, site: int) -> str:

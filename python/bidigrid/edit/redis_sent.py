@@ -3,6 +3,7 @@
 from __future__ import annotations
 
 import binascii
+import re
 from typing import Any
 
 from .. import Identifier
@@ -44,8 +45,8 @@ class Sent:
     def agree(self, link: Link, log: Log, site: int) -> bool:
         """Takes over what Redis says, and has it give nobody else this site; answers whether it has forgotten some."""
         link.call("EVAL", CLAIM, 1, self.sites, site)
-        told = (link.call("HGET", self.key, site) or b"0:0").decode()
-        size = int(told.partition(":")[0])
+        told = (link.call("HGET", self.key, site) or b"0:0").decode(errors="replace")
+        size = int(told.partition(":")[0]) if re.fullmatch("[0-9]{1,19}:[0-9]{1,19}", told) else 0
         total = binascii.crc32(log.read(0, min(size, log.size)))
         if told != mark(size, total):
             raise EditFault(f"{log.path} is not what site {site} has sent: name a new log by --log")

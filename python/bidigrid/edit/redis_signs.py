@@ -21,7 +21,7 @@ class Signs:
     def __init__(self, key: str, by: bytes, who: str) -> None:
         self.key = key
         self.by = by
-        self.who = who
+        self.who = plain_name(who)
         self.site = 0
         self.upto = b"0"
         self.here: dict[int, Here] = {}
@@ -64,7 +64,7 @@ class Signs:
 
     def wrote(self, site: bytes, message: bytes) -> None:
         """Keeps that another desk wrote a message, where its caret stands then."""
-        here = self.here.get(int(site)) if site.isdigit() else None
+        here = next((it for it in self.here.values() if str(it.site).encode() == site), None)
         if here:
             self.here[here.site] = here._replace(caret=last_identifier(message), seen=time.monotonic())
 

@@ -197,7 +197,8 @@ def test_a_pipe_that_nobody_writes_to_stops_nobody(tmp_path: Path) -> None:
 
 
 @pytest.mark.parametrize("sign", ["", "{", "[]", '{"name": 1, "caret": [1, 2, 3]}', '{"name": 1, "caret": ["x", 1]}',
-                                  '{"name": "x", "caret": [-1, 1e300]}', "\x00" * 2000, "\udcff"])  # fmt: skip
+                                  '{"name": "x", "caret": [-1, 1e300]}', '{"name": "x", "caret": [Infinity, 1]}', "[" * 1000,
+                                  "\x00" * 2000, "\udcff"])  # fmt: skip
 def test_hostile_signs_do_no_harm(tmp_path: Path, sign: str) -> None:
     one, other = in_folder(tmp_path / "one.bgop", tmp_path), in_folder(tmp_path / "other.bgop", tmp_path)
     one.replace(0, 0, "tea")

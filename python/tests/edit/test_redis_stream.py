@@ -98,10 +98,12 @@ def test_a_faulty_message_is_told_and_stops_nobody(tmp_path: Path, server: Serve
     one, other = over_redis(tmp_path / "one.bgop", server), over_redis(tmp_path / "other.bgop", server)
     one.replace(0, 0, "tea")
     have_met(one, other)
-    fields = {"by": "a stranger", "site": 9, "message": message}
-    redis.Redis.from_url(server.url).xadd("bidigrid:{notes}:stream", fields)
+    store = redis.Redis.from_url(server.url)
+    store.xadd("bidigrid:{notes}:stream", {"by": "a stranger", "site": 9, "message": message})
     until(lambda: (one.turn(), other.turn()) and one.notice and other.notice)
     assert other.notice.startswith("site 9, ") and said in other.notice and other.notice.endswith("left out")
+    # A number with more digits than Python takes.
+    store.xadd("bidigrid:{notes}:stream", {"by": "a stranger", "site": "9" * 5000, "message": message})
     one.replace(3, 3, "m")
     have_met(one, other)
     assert other.document.text == "team"
@@ -136,6 +138,23 @@ def test_a_log_that_is_older_than_what_went_out_is_told(tmp_path: Path, server: 
         over_redis(path, server)
     assert path.read_bytes() == old
     assert over_redis(tmp_path / "new.bgop", server).site == 2
+    for told in ("x", "5", "9" * 5000 + ":1", b"\xff:1"):
+        redis.Redis.from_url(server.url).hset("bidigrid:{notes}:sent", "1", told)
+        with pytest.raises(EditFault, match="is not what site 1 has sent"):
+            over_redis(path, server)
+
+
+def test_names_that_are_no_text_are_told_or_shown_without_that(tmp_path: Path, server: Server) -> None:
+    with pytest.raises(EditFault, match="^over Redis the name of a text has to be UTF-8$"):
+        RedisStream(server.url, "notes\udcff", "someone")
+    one = desk_at(tmp_path / "one.bgop", RedisStream(server.url, "notes", "da\udcffna"))
+    other = over_redis(tmp_path / "other.bgop", server)
+    one.replace(0, 0, "tea")
+    have_met(one, other)
+    until(lambda: (one.turn(), other.turn()) and other.here())
+    assert other.here()[1].name == "dana"
+    one.close()
+    other.close()
 
 
 def test_who_is_here_is_seen_and_where(tmp_path: Path, server: Server) -> None:
