@@ -111,7 +111,9 @@ class Editor(Seeking):
         edit = self.desk.replace(start, stop, text, joined)
         self.end_selection()
         self.goal = None
-        self.stand_behind(start + len(text))
+        # Where nothing is done one stays at one's edge.
+        if start < stop or text:
+            self.stand_behind(start + len(text))
         return edit
 
     def type(self, key: Key) -> None:

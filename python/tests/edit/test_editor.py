@@ -70,6 +70,14 @@ def test_a_caret_stays_behind_its_character(pair: Pair) -> None:
     assert pair.text() == "hot|and milk"
 
 
+def test_a_caret_stays_at_its_edge_where_a_key_does_nothing(pair: Pair) -> None:
+    pair.press("'ab שלום'", "right", "right", "right", "right")
+    assert (pair.text(), view_of(pair.editor).column) == ("ab |שלום", 7)
+    for key in ("ctrl-x", "ctrl-c", "mark", "ctrl-x", "''", "ctrl-k"):
+        pair.press(key)
+        assert (pair.text(), view_of(pair.editor).column) == ("ab |שלום", 7)
+
+
 def test_a_caret_stays_at_its_edge(pair: Pair) -> None:
     # A Hebrew word ends at its left, and begins at its right.
     pair.press("'ab שלום'")
