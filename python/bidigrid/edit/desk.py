@@ -3,6 +3,7 @@
 from __future__ import annotations
 
 import collections
+import functools
 import time
 from collections.abc import Callable, Iterator
 
@@ -70,12 +71,8 @@ class Desk:
         except OSError as error:
             raise EditFault(f"cannot write {self.log.path}: {reason(error)}") from None
         came = channel.open(self.log, self.site) if channel else []
-        self.document = loaded(
-            self.log,
-            came,
-            self.held,
-            lambda data: Document.load(data, self.site, width, base, wide_ambiguous=self.wide_ambiguous),
-        )
+        how = functools.partial(Document.load, site=self.site, width=width, base=base, wide_ambiguous=self.wide_ambiguous)
+        self.document = loaded(self.log, came, self.held, how)
         for message in came:
             self.take(message)
 
@@ -240,7 +237,9 @@ class Desk:
         return not (self.jobs or self.log.waiting) and (not self.carrier or self.carrier.is_sent())
 
     def close(self) -> None:
-        """Flushes and sends what is left, if it can, and leaves."""
+        """Ends what is going on, flushes and sends what is left, if it can, and leaves."""
+        while self.jobs:
+            self.turn()
         until = time.monotonic() + AGAIN
         while self.is_saved() and not self.is_idle() and time.monotonic() < until:
             self.turn()

@@ -220,7 +220,9 @@ class Editor(Seeking):
         self.desk.is_changed = True
 
     def leave(self) -> None:
-        """Leaves once all is done and flushed; at the second time also where it can't be."""
+        """Leaves once all is done and flushed; at the second time also where it isn't or can't be."""
+        if self.is_leaving:
+            self.desk.jobs.clear()
         self.is_left = self.is_left or self.is_leaving or self.is_warned or self.is_done()
         self.is_leaving = not self.is_left
         self.desk.failed_at = 0.0

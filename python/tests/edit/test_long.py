@@ -132,7 +132,18 @@ def test_what_is_going_on_is_done_before_one_leaves(editor: Editor) -> None:
     assert editor.document.text == LONG[:2000] and not editor.desk.log.waiting
     editor.is_left = editor.is_leaving = False
     press(editor, "ctrl-z", "ctrl-q", "ctrl-q", "ctrl-q")
-    assert editor.is_left and editor.desk.jobs
+    assert editor.is_left and not editor.desk.jobs and len(editor.document) == 2000 - undo.AT_ONCE
+
+
+def test_what_is_going_on_is_done_also_where_the_terminal_is_gone(tmp_path: Path, monkeypatch: pytest.MonkeyPatch) -> None:
+    monkeypatch.setattr(desks_module, "AT_ONCE", 0.0)
+    monkeypatch.setattr(desks_module, "AGAIN", 0.1)
+    desk = desk_at(tmp_path / "notes.bgop", site=1)
+    editor = Editor(desk, 10, "")
+    paste(editor, LONG)
+    press(editor, "ctrl-a", "delete", "ctrl-z")
+    desk.close()
+    assert text_of([tmp_path / "notes.bgop"]) == LONG
 
 
 def test_a_key_is_written_while_much_that_was_copied_is_typed(editor: Editor) -> None:
