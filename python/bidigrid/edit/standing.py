@@ -95,8 +95,11 @@ class Standing:
         return self.document.rows(carets.place_behind(self.document, self.top) or 0, 0, self.height - 1)
 
     def scroll(self, rows: Sequence[Row]) -> None:
-        """Shows these rows, if the caret is seen there; else others, with it at the edge that it went over."""
+        """Shows these rows, if the caret is seen there; else others, with it at the edge that it went over. No room stays empty
+        below while there are rows above."""
         row = self.found.row
+        if len(rows) < self.height and rows[0].first_place:
+            rows = self.document.rows(rows[-1].first_place, self.height - 1, 0)
         line = next((line for line, it in enumerate(rows) if it.first_place == row), None)
         if line is None:
             above = 0 if row < rows[0].first_place else self.height - 1

@@ -231,6 +231,21 @@ def test_much_is_copied_for_this_editor_alone(pair: Pair) -> None:
     assert pair.editor.clipboard.tell() == b"" and "too many for the terminal's clipboard" in pair.desk.notice
 
 
+def test_no_room_stays_empty_below_while_there_are_rows_above(pair: Pair) -> None:
+    pair.press("'1\n2\n3\n4\n5\n6'")
+
+    def seen() -> list[str]:
+        return [str(row).rstrip() for row in view_of(pair.editor).rows]
+
+    assert seen() == ["1", "2", "3", "4", "5", "6"]
+    for height, wanted in [(1, ["6"]), (3, ["4", "5", "6"]), (5, ["2", "3", "4", "5", "6"]), (9, ["1", "2", "3", "4", "5", "6"])]:
+        pair.editor.resize(40, height)
+        assert seen() == wanted and view_of(pair.editor).line == len(wanted) - 1
+    pair.editor.resize(40, 3)
+    pair.press("up", "up", "shift-ctrl-end", "shift-up", "delete")
+    assert pair.text() == "1\n2\n3\n4|\n6" and seen() == ["3", "4", "6"]
+
+
 def test_the_keys_are_shown_page_by_page_where_they_find_no_room(pair: Pair) -> None:
     pair.editor.resize(80, 24)
     pair.press("'tea'", "f1")
