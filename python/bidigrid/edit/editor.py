@@ -33,6 +33,7 @@ class Editor(Seeking):
         self.is_left = self.is_leaving = self.is_warned = False
         self.page = 0  # of the keys that are shown, from 1; 0 where the text is
         self.pasted: Edit | None = None
+        self.is_cut = False  # a piece of what is being pasted was refused, and so is the rest
         self.pressed = 0
         self.edits: dict[str, Callable[[], None]] = {
             "backspace": self.backspace,
@@ -55,7 +56,7 @@ class Editor(Seeking):
 
     def press(self, key: Key) -> None:
         """Does what a key is for. What the core refuses is reported."""
-        if not self.desk.failed_at:
+        if not self.desk.failed_at and not self.is_cut:
             self.desk.notice = ""
         at = None
         self.pressed += 1
@@ -74,6 +75,7 @@ class Editor(Seeking):
                 self.go(at, left.name)
         except (Fault, MemoryError) as fault:
             self.desk.notice = str(fault) or "memory"
+            self.is_cut = key.name == "paste" and not self.is_seeking
         if at:
             self.scroll(self.shown)
         else:
@@ -118,6 +120,8 @@ class Editor(Seeking):
 
     def type(self, key: Key) -> None:
         """Types, in the place of what is selected. The pieces of a paste are one edit."""
+        if self.is_cut:
+            return
         if key.name == "paste" and not self.pasted:
             self.desk.edits.close()
         edit = self.replace(*self.selected(), plain(key.text), self.pasted)
@@ -125,7 +129,7 @@ class Editor(Seeking):
 
     def end_paste(self) -> None:
         """Has seen the last piece."""
-        self.pasted = None
+        self.pasted, self.is_cut = None, False
         self.desk.edits.close()
 
     def backspace(self) -> None:

@@ -448,5 +448,10 @@ def test_a_text_that_is_full_is_told(pair: Pair) -> None:
     pair.take(pair.other.type(0, "x" * 999_999))
     pair.press("'ab'")
     assert "202 Full" in pair.desk.notice and len(pair.desk.document) == 999_999
+    # What finds no room in the middle of a paste would be missed there.
+    for piece in ("ab", "c"):
+        pair.editor.press(Key("paste", piece))
+    pair.press("pasted")
+    assert "202 Full" in pair.desk.notice and len(pair.desk.document) == 999_999
     pair.press("'a'")
-    assert len(pair.desk.document) == 1_000_000
+    assert len(pair.desk.document) == 1_000_000 and not pair.desk.notice
