@@ -30,8 +30,8 @@ Ends = tuple[Identifier, Identifier]
 
 
 class Desk:
-    """One's copy of a text. `notice` is what is to be reported, `caret` the character that one's caret stands behind, and
-    `is_changed` is set where there is something new to be seen."""
+    """One's copy of a text. `notice` is what is to be reported, `failure` why the log can't be written, `caret` the character
+    that one's caret stands behind, and `is_changed` is set where there is something new to be seen."""
 
     def __init__(
         self,
@@ -49,7 +49,7 @@ class Desk:
         self.part: Iterator[Message] = iter(())
         self.jobs: collections.deque[Iterator[object]] = collections.deque()
         self.leaving: list[Ends] = []  # the ranges that are being erased
-        self.notice = ""
+        self.notice = self.failure = ""
         self.caret: Identifier | None = None
         self.is_changed = self.is_whole = True
         self.is_behind = False
@@ -214,11 +214,12 @@ class Desk:
         try:
             how()
         except OSError as error:
-            self.failed_at = now
-            self.notice = f"{self.log.path} is not written, what you type is kept: {reason(error)}"
-            self.is_changed = True
+            failure = f"{self.log.path} is not written, what you type is kept: {reason(error)}"
+            # At each further try what was reported since stays.
+            self.notice = self.notice if self.failure else failure
+            self.failure, self.failed_at, self.is_changed = failure, now, True
         if self.failed_at and not self.log.waiting:
-            self.notice, self.failed_at, self.is_changed = "the log is written again", 0.0, True
+            self.notice, self.failure, self.failed_at, self.is_changed = "the log is written again", "", 0.0, True
 
     def is_saved(self) -> bool:
         """Writes and flushes what waits, if it can; answers whether none waits then."""

@@ -56,8 +56,8 @@ class Editor(Seeking):
 
     def press(self, key: Key) -> None:
         """Does what a key is for. What the core refuses is reported."""
-        if not self.desk.failed_at and not self.is_cut:
-            self.desk.notice = ""
+        if not self.is_cut:
+            self.desk.notice = self.desk.failure
         at = None
         self.pressed += 1
         self.page = (self.page + 1) % (1 + len(self.pages())) if key.name == "f1" else 0

@@ -8,9 +8,9 @@ from collections.abc import Iterator
 from pathlib import Path
 
 import pytest
-from bidigrid import Document
+from bidigrid import Document, Row
 from bidigrid.edit.channel import Message
-from bidigrid.edit.desk import Desk
+from bidigrid.edit.desk import AGAIN, Desk
 from bidigrid.edit.editor import Editor
 from bidigrid.edit.keys import Key
 from bidigrid.edit.view import view_of
@@ -253,7 +253,7 @@ def test_the_keys_are_shown_page_by_page_where_they_find_no_room(pair: Pair) -> 
     pair.press("f1")
     assert str(view_of(pair.editor).rows[0]).rstrip() == "tea"
     pair.editor.resize(12, 3)
-    pages = []
+    pages: list[tuple[Row, ...]] = []
     for _ in range(100):
         pair.press("f1")
         seen = view_of(pair.editor)
@@ -412,6 +412,41 @@ def test_a_text_that_can_not_be_written_is_told(pair: Pair) -> None:
     pair.press("ctrl-s")
     until(lambda: pair.desk.turn() or pair.desk.notice)
     assert pair.desk.notice == "/nowhere/notes.txt is not written: No such file or directory"
+
+
+def test_what_is_reported_while_the_log_can_not_be_written_stays_until_a_key(
+    pair: Pair, monkeypatch: pytest.MonkeyPatch
+) -> None:
+    tried: list[int] = []
+
+    def fail(file: int) -> None:
+        tried.append(file)
+        raise OSError(errno.ENOSPC, os.strerror(errno.ENOSPC))
+
+    def turned() -> bool:
+        pair.editor.turn()
+        return True
+
+    def turn() -> None:
+        pair.desk.failed_at -= AGAIN
+        tries = len(tried)
+        until(lambda: turned() and len(tried) > tries and not pair.desk.log.flushing)
+
+    monkeypatch.setattr(os, "fdatasync", fail)
+    pair.press("'tea'")
+    turn()
+    assert "is not written, what you type is kept" in pair.desk.notice
+    pair.press("ctrl-q")
+    for _ in range(3):
+        turn()
+        assert "Ctrl-Q again leaves without it" in pair.desk.notice and not pair.editor.is_left
+    pair.press("left")
+    assert "is not written, what you type is kept" in pair.desk.notice
+    monkeypatch.undo()
+    pair.desk.failed_at -= AGAIN
+    until(lambda: turned() and pair.desk.notice == "the log is written again")
+    pair.press("left")
+    assert pair.desk.notice == ""
 
 
 def test_a_file_that_was_there_is_written_over_at_the_second_time(pair: Pair) -> None:
