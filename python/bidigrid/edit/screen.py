@@ -154,8 +154,8 @@ class Screen:
 
 @functools.lru_cache(1000)
 def as_typed(shown: str, level: int) -> str:
-    """The characters of a cluster before they were mirrored: a mirror's mirror."""
-    if level % 2 == 0:
+    """The characters of a cluster before they were mirrored: a mirror's mirror. A blank has none."""
+    if level % 2 == 0 or shown.isspace():
         return shown
     return str(layout(f"\u202e{shown}", 8)).strip()
 

@@ -176,6 +176,9 @@ def test_a_terminal_that_reorders_gets_the_text_as_it_is_read(terminal: Terminal
     pane = terminal.run("dana", "--logical").started()
     pane.type("ab (שלום) cd")
     pane.shows("ab (שלום) cd")
+    pane.press("Enter")
+    pane.type("שלום עולם (x)  ab")
+    pane.shows("ab (שלום) cd", "שלום עולם (x)  ab")
 
 
 def test_what_a_stranger_types_can_not_steer_the_terminal(terminal: Terminal, tmp_path: Path) -> None:
