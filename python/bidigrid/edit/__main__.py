@@ -159,13 +159,15 @@ def heed(is_ended: list[int]) -> int:
     waker, wake = os.pipe2(os.O_NONBLOCK | os.O_CLOEXEC)
     signal.set_wakeup_fd(wake, warn_on_full_buffer=False)
     signal.signal(signal.SIGWINCH, lambda number, frame: None)
-    for number in (signal.SIGTERM, signal.SIGHUP):
+    for number in (signal.SIGTERM, signal.SIGHUP, signal.SIGINT):
         signal.signal(number, lambda number, frame: is_ended.append(number))
     return waker
 
 
 def main(words: list[str] | None = None) -> int:
     """Edits a text, and answers the status."""
+    # Ctrl-C is a key as soon as there is a screen.
+    signal.signal(signal.SIGINT, signal.SIG_DFL)
     wanted = asked(words)
     speak_utf_8()
     try:

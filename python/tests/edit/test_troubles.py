@@ -8,7 +8,7 @@ from pathlib import Path
 
 import pytest
 from program import text_of
-from servers import Server
+from servers import Server, Way
 from terminal import Pane, Terminal
 from waiting import until
 
@@ -121,6 +121,17 @@ def test_a_redis_that_wants_a_password(terminal: Terminal, locked_server: Server
     pane.words[-1] = url.replace("//", "//:secret@")
     pane.start()
     pane.started().tells("| redis |")
+
+
+def test_a_start_that_takes_long_is_ended_by_ctrl_c(terminal: Terminal, server: Server) -> None:
+    way = Way(server)
+    way.flows.clear()
+    pane = terminal.run("dana", "--redis", way.url)
+    until(way.is_stopped.is_set)
+    pane.press("C-c")
+    until(pane.is_dead)
+    assert pane.said() == ""
+    way.close()
 
 
 def test_no_redis_for_a_new_desk(terminal: Terminal, tmp_path: Path) -> None:
