@@ -107,20 +107,21 @@ class Screen:
         """Draws a row, what is selected in it, and the carets."""
         row = view.rows[number]
         cells = str(row)
+        # A row has two columns at least, and a terminal may have one.
+        seen = [entry for entry in row.entries if entry.columns and entry.column < columns]
         if self.is_logical:
             self.put(number, 0, "".join(in_reading_order(row)))
         elif len(cells) == view.width and PLAIN.fullmatch(cells):
             self.put(number, 0, cells.rstrip())
         else:
-            for entry in row.entries:
-                if entry.columns and entry.column < columns:
-                    self.put(number, entry.column, entry.shown)
+            for entry in seen:
+                self.put(number, entry.column, entry.shown)
         if self.is_logical:
             return
         first, last = view.selected
         if first < row.last_place and row.first_place < last:
-            for entry in row.entries:
-                if first <= entry.first_place < last and entry.columns:
+            for entry in seen:
+                if first <= entry.first_place < last:
                     self.window.chgat(number, entry.column, entry.columns, curses.A_REVERSE)
         for line, column, site in view.others:
             if line == number:

@@ -153,6 +153,16 @@ def test_base_and_width_are_changed_at_once(terminal: Terminal) -> None:
             pane.shows(*rows_at(width - 1, "auto"))
 
 
+def test_a_terminal_of_one_column_or_line_will_do(terminal: Terminal) -> None:
+    pane = terminal.run("dana").started()
+    pane.type("tea, חלב")
+    pane.press("C-a")
+    for size in (("-x", "1"), ("-x", "2", "-y", "1"), ("-x", "1"), ("-x", "60", "-y", "14")):
+        terminal.tmux("resize-window", *size)
+        pane.press("S-Left")
+    pane.shows("tea, בלח")
+
+
 def test_a_terminal_without_colours_or_size_will_do(terminal: Terminal) -> None:
     pane = terminal.run("dana", is_started=False)
     pane.words[:0] = ["env", "TERM=vt100", "LANG=C"]
