@@ -3,6 +3,7 @@
 from __future__ import annotations
 
 import collections
+import contextlib
 import os
 import queue
 import threading
@@ -60,9 +61,12 @@ class Disk:
 
 
 def write_whole(path: str, parts: Iterable[bytes]) -> None:
-    """Writes a file, whole or not at all."""
+    """Writes a file, whole or not at all: where a link leads, and for those who may read the one that was there."""
+    path = os.path.realpath(path)
     with open(f"{path}.new", "wb") as file:
         try:
+            with contextlib.suppress(OSError):
+                os.fchmod(file.fileno(), os.stat(path).st_mode & 0o777)
             file.writelines(parts)
             file.flush()
             os.fsync(file.fileno())

@@ -468,6 +468,18 @@ def test_a_file_that_was_there_is_written_over_at_the_second_time(pair: Pair) ->
     assert (told(), path.read_text()) == (asked, "another's again")
 
 
+def test_a_file_is_written_over_where_its_link_leads_and_stays_private(pair: Pair) -> None:
+    path = Path(pair.editor.text_path)
+    there = path.with_name("elsewhere")
+    there.write_text("another's")
+    there.chmod(0o600)
+    path.symlink_to(there)
+    for _ in range(2):
+        pair.press("ctrl-a", "'tea'", "ctrl-s")
+        until(lambda: pair.desk.turn() or pair.desk.notice)
+    assert path.is_symlink() and there.read_text() == "tea" and there.stat().st_mode & 0o777 == 0o600
+
+
 def test_what_can_not_be_written_leaves_no_other_file(pair: Pair, monkeypatch: pytest.MonkeyPatch) -> None:
     def fail(file: int) -> None:
         raise OSError(errno.ENOSPC, os.strerror(errno.ENOSPC))
