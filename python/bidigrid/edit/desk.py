@@ -218,7 +218,7 @@ class Desk:
             # At each further try what was reported since stays.
             self.notice = self.notice if self.failure else failure
             self.failure, self.failed_at, self.is_changed = failure, now, True
-        if self.failed_at and not self.log.waiting:
+        if self.failure and not self.log.waiting:
             self.notice, self.failure, self.failed_at, self.is_changed = "the log is written again", "", 0.0, True
 
     def is_saved(self) -> bool:

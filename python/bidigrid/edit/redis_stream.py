@@ -28,7 +28,7 @@ class RedisStream:
     """The text NAME in a Redis: keys that begin with `bidigrid:{NAME}:`, all in one slot of a cluster."""
 
     def __init__(self, url: str, name: str, who: str) -> None:
-        if not name.isascii() and name != name.encode(errors="replace").decode():
+        if name != name.encode(errors="replace").decode():
             raise EditFault("over Redis the name of a text has to be UTF-8")
         self.url = url
         self.shown_url = without_password(url)

@@ -107,20 +107,18 @@ class Screen:
         """Draws a row, what is selected in it, and the carets."""
         row = view.rows[number]
         cells = str(row)
-        # A row has two columns at least, and a terminal may have one.
-        seen = [entry for entry in row.entries if entry.columns and entry.column < columns]
         if self.is_logical:
             self.put(number, 0, "".join(in_reading_order(row)))
         elif len(cells) == view.width and PLAIN.fullmatch(cells):
             self.put(number, 0, cells.rstrip())
         else:
-            for entry in seen:
+            for entry in seen(row, columns):
                 self.put(number, entry.column, entry.shown)
         if self.is_logical:
             return
         first, last = view.selected
         if first < row.last_place and row.first_place < last:
-            for entry in seen:
+            for entry in seen(row, columns):
                 if first <= entry.first_place < last:
                     self.window.chgat(number, entry.column, entry.columns, curses.A_REVERSE)
         for line, column, site in view.others:
@@ -151,6 +149,11 @@ class Screen:
             os.write(1, END if self.is_logical else END + AS_IT_IS_READ)
         except (curses.error, OSError):
             return
+
+
+def seen(row: Row, columns: int) -> list[Entry]:
+    """The entries of a row that are seen: a row has two columns at least, and a terminal may have one."""
+    return [entry for entry in row.entries if entry.columns and entry.column < columns]
 
 
 @functools.lru_cache(1000)

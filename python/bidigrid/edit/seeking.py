@@ -53,8 +53,8 @@ class Seeking(Selection):
         return None
 
     def find(self, word: str, key: str = "") -> None:
-        """Selects where a word stands: from where one began to seek, or the next time or the time before, and round the end of
-        the text; where it is nowhere one stays."""
+        """Selects where a word stands from where one began to seek on, or as a key asks for the next time or the time before,
+        also round the end of the text; where it is nowhere one stays."""
         self.word, self.remark = word, ""
         if not word:
             return self.go_back()
