@@ -21,6 +21,7 @@ AS_IT_STANDS, AS_IT_IS_READ = b"\x1b[8l\x1b]5379;use_ctl=false\x07", b"\x1b[8h\x
 PLAIN = re.compile("[ -~\u00a1-\u00ac\u00ae-\u02ff\u0370-\u0482\u048a-\u0590\u05be\u05c0\u05c3\u05c6\u05d0-\u05f4"
                    "\u061b-\u064a\u0660-\u066f\u0671-\u06d5\u06ee-\u070d]*")  # fmt: skip
 WIDEST = 500  # columns of a row
+HIGHEST = 1000  # rows that a document shows above a place, or below it
 COLOURS = (curses.COLOR_RED, curses.COLOR_GREEN, curses.COLOR_YELLOW, curses.COLOR_BLUE, curses.COLOR_MAGENTA,
            curses.COLOR_CYAN)  # fmt: skip
 
@@ -52,7 +53,7 @@ class Screen:
     def size(self) -> tuple[int, int]:
         """The columns and the rows for the text: a caret behind the last column has one, and the status a line."""
         lines, columns = self.window.getmaxyx()
-        return max(2, columns - 1), max(1, lines - 1)
+        return max(2, columns - 1), min(max(1, lines - 1), HIGHEST)
 
     def resize(self) -> None:
         """Takes the terminal's new size."""

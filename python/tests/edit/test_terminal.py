@@ -153,6 +153,17 @@ def test_base_and_width_are_changed_at_once(terminal: Terminal) -> None:
             pane.shows(*rows_at(width - 1, "auto"))
 
 
+def test_a_terminal_of_very_many_lines_will_do(terminal: Terminal) -> None:
+    pane = terminal.run("dana").started()
+    pane.paste("".join(f"line {number}\n" for number in range(1300)))
+    pane.tells("characters")
+    terminal.tmux("resize-window", "-y", "1200")
+    pane.shows(*(f"line {number}" for number in range(301, 1300)), "")
+    pane.press("PPage", "Home")
+    pane.stands(0, 0)
+    assert pane.rows()[0] == "line 301"
+
+
 def test_a_terminal_of_one_column_or_line_will_do(terminal: Terminal) -> None:
     pane = terminal.run("dana").started()
     pane.type("tea, חלב")
