@@ -5,6 +5,7 @@ from pathlib import Path
 
 import pytest
 from bidigrid.edit.memory import FOLDER
+from pairs import Pair
 from servers import Server
 from terminal import Terminal
 
@@ -40,3 +41,11 @@ def terminal(tmp_path: Path) -> Iterator[Terminal]:
     made = Terminal(tmp_path, 182, 14)
     yield made
     made.close()
+
+
+@pytest.fixture
+def pair(tmp_path: Path) -> Iterator[Pair]:
+    """An editor of site 1, and a document of site 2."""
+    made = Pair(tmp_path)
+    yield made
+    made.desk.close()
