@@ -219,8 +219,9 @@ uint32_t bidigrid_picture_entry_sizes(const bidigrid_picture *picture, size_t ro
                                       size_t *count);
 
 /* A caret stands in a gap of a row: gap g left of entry g, the last gap right of the last entry. Its place is where
- * the next character goes. It is seen at the column of entry g; in the last gap behind the cells of the last entry, which
- * may be at the width; and at the column of the row where that has no entries. */
+ * the next character goes; a gap where two directions meet has two, and a caret that went right or left has the one
+ * beside the entry that it passed. It is seen at the column of entry g; in the last gap behind the cells of the last
+ * entry, which may be at the width; and at the column of the row where that has no entries. */
 typedef struct bidigrid_caret {
     size_t row;
     size_t gap;

@@ -61,12 +61,21 @@ static void backspace(line *it)
     type(it, "");
 }
 
-/* Moves the caret; with the shift key what it passes is selected. */
-static void move(line *it, uint32_t (*step)(bidigrid_document *, bidigrid_position *), bool shift)
+typedef uint32_t (*steps)(bidigrid_document *, bidigrid_position *);
+
+/* Moves the caret; with the shift key what it passes is selected. Where two directions meet, a gap has two places: what is
+ * selected begins at the one from which a step back comes. */
+static void move(line *it, steps step, steps back, bool shift)
 {
+    bidigrid_position from = it->caret;
     must(step(&it->document, &it->caret));
-    if (!shift)
+    if (!shift) {
         it->anchor = it->caret.place;
+    } else if (it->anchor == from.place && (it->caret.row != from.row || it->caret.gap != from.gap)) {
+        from = it->caret;
+        must(back(&it->document, &from));
+        it->anchor = from.place;
+    }
 }
 
 /* Shows the caret's row: a bar where the caret is seen, and below what is selected a line. */
@@ -101,12 +110,11 @@ int main(void)
     must(bidigrid_document_new(&it.document, &tables, 1, WIDTH, BIDIGRID_BASE_AUTO, 0, 0));
     type(&it, "cafe\u0301 תה 2?");
     show(&it, "typed");
-    move(&it, bidigrid_position_left, false);
-    move(&it, bidigrid_position_left, false);
-    show(&it, "left, left");
-    move(&it, bidigrid_position_left, true);
-    move(&it, bidigrid_position_left, true);
-    show(&it, "shift");
+    move(&it, bidigrid_position_left, bidigrid_position_right, false);
+    show(&it, "left");
+    move(&it, bidigrid_position_left, bidigrid_position_right, true);
+    move(&it, bidigrid_position_left, bidigrid_position_right, true);
+    show(&it, "shift, left");
     type(&it, "x");
     show(&it, "typed over");
     stand(&it, 5); /* behind the letter with its mark, as a mouse may point there */

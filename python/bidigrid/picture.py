@@ -19,7 +19,8 @@ class Caret(NamedTuple):
     row: from the top, from 0.
     gap: gap g is left of entry g of the row, at its column; the last gap is right of the last entry, which may be at the
         width, and in a row without entries at the row's column.
-    place: where in the text the next character goes, in code points.
+    place: where in the text the next character goes, in code points. A gap where two directions meet has two; a caret that
+        went right or left has the one beside the entry that it passed.
     """
 
     row: int
