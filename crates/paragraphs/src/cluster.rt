@@ -98,7 +98,7 @@ impl<'a> Clusters<'a> {
     {
         // What is left is a text.
         let _rest = &self.text[self.byte..];
-        let bytes = points[0].len_utf8();
+        let bytes = plain_len(points[0]);
         self.byte += bytes;
         bytes
     }
@@ -125,7 +125,7 @@ impl<'a> Clusters<'a> {
         }
         // Marks belong to it (GB9), and it ends where a plain one follows them (GB999), or nothing (GB2).
         let size = marks_end(points, words)?;
-        self.byte += c.len_utf8() + (size - 1) * MARK_LEN;
+        self.byte += plain_len(c) + (size - 1) * MARK_LEN;
         Some(size)
     }
 }
@@ -147,6 +147,15 @@ impl<'a> Iterator for Clusters<'a> {
         self.byte = self.text.len() - graphemes.as_str().len();
         Some(cluster)
     }
+}
+
+/// How many bytes a plain character has, which one comparison tells.
+#[inline]
+fn plain_len(c: char) -> usize
+    requires { is_plain c ≡ true }
+    ensures { result ≡ len_utf8 c }
+{
+    if c < '\u{80}' { 1 } else { 2 }
 }
 
 /// The place of the first plain code point behind the first of these, or their end, if there are
