@@ -12,9 +12,10 @@ ghost use Rattle.desk_replica.specs.Replacement.{typed_text, deletions, replacem
 ghost use Rattle.desk_replica.specs.declared.answer.TypeFault.{TypeFault as Untyped};
 ghost use Rattle.live_document.specs.Cost.{weight_kept, IsLaidOut, KeepsOthers};
 ghost use Rattle.live_document.specs.Documents.{window_round, IsDrawnAlike, IsWindowOf};
-ghost use Rattle.live_document.specs.Runs.{Types, Erases, Replaces, Resizes, Turns, Keeps, Shows, IsCall};
+ghost use Rattle.live_document.specs.Runs.{Types, Erases, Replaces, Shows, IsCall};
 ghost use Rattle.live_document.specs.Showing.{no_window};
 
+mod drawing;
 mod positions;
 mod prints;
 mod taking;
@@ -181,6 +182,8 @@ impl Document {
         ensures enough { n ≤ self.old.desk.spare → IsOk result }
         ensures drawn { IsDrawnAlike self.old self.new }
         ensures window { self.new.window ≡ self.old.window }
+        ensures paragraphs { self.new.paragraphs ≡ self.old.paragraphs }
+        ensures laid { self.new.laid ≡ self.old.laid }
     {
         self.desk.reserve(n)
     }
@@ -279,6 +282,7 @@ impl Document {
         ensures drawn { IsDrawnAlike self.old self.new }
         ensures window { OnOk result (self.new.window ≡ no_window) }
         ensures kept { OnOk result (KeepsOthers self.old.paragraphs self.new.paragraphs place place) }
+        ensures laid { self.new.laid ≡ self.old.laid }
         ensures call { IsCall self.old (Types place (chars characters.now)) (is_err result) self.new }
     {
         self.desk.type_text(place, characters, made)?;
@@ -321,6 +325,7 @@ impl Document {
         ensures drawn { IsDrawnAlike self.old self.new }
         ensures window { OnOk result (self.new.window ≡ no_window) }
         ensures kept { OnOk result (KeepsOthers self.old.paragraphs self.new.paragraphs from to) }
+        ensures laid { self.new.laid ≡ self.old.laid }
         ensures call { IsCall self.old (Erases from to) (is_err result) self.new }
     {
         self.desk.erase_range(from, to, made)?;
@@ -359,6 +364,7 @@ impl Document {
         ensures drawn { IsDrawnAlike self.old self.new }
         ensures window { OnOk result (self.new.window ≡ no_window) }
         ensures kept { OnOk result (KeepsOthers self.old.paragraphs self.new.paragraphs from to) }
+        ensures laid { self.new.laid ≡ self.old.laid }
         ensures call { IsCall self.old (Replaces from to (chars characters.now)) (is_err result) self.new }
     {
         self.desk.replace(from, to, characters, made)?;
@@ -372,55 +378,6 @@ impl Document {
         );
         self.shown = Shown::nothing();
         Ok(())
-    }
-
-    /// Draws at another width in columns from now on. Then nothing is shown.
-    /// Cost: O(n / 32) of the paragraphs, and O(64) for each block of at most 64 of which something is kept.
-    pub fn resize(&mut self, width: u16)
-        requires at_least { 2 ≤ width }
-        requires at_most { width ≤ 500 }
-        ensures width { self.new.width ≡ width }
-        ensures base { self.new.base ≡ self.old.base }
-        ensures tables { self.new.tables ≡ self.old.tables }
-        ensures desk { self.new.desk ≡ self.old.desk }
-        ensures most { self.new.most ≡ self.old.most }
-        ensures window { self.new.window ≡ no_window }
-        ensures call { IsCall self.old (Resizes width) false self.new }
-    {
-        forget_rows(&mut self.buffer);
-        self.held = 0;
-        self.width = width;
-        self.shown = Shown::nothing();
-    }
-
-    /// Draws at another base direction from now on. Then nothing is shown.
-    /// Cost: that of `Document::resize`.
-    pub fn set_base(&mut self, base: Base)
-        ensures base { self.new.base ≡ base }
-        ensures width { self.new.width ≡ self.old.width }
-        ensures tables { self.new.tables ≡ self.old.tables }
-        ensures desk { self.new.desk ≡ self.old.desk }
-        ensures most { self.new.most ≡ self.old.most }
-        ensures window { self.new.window ≡ no_window }
-        ensures call { IsCall self.old (Turns base) false self.new }
-    {
-        forget_rows(&mut self.buffer);
-        self.held = 0;
-        self.base = base;
-        self.shown = Shown::nothing();
-    }
-
-    /// Keeps rows from now on in the memory that this many take (at most 1,000,000), or those of four windows where that is more,
-    /// as if each column had an entry of its own; a document is made with 0. A row has 48 bytes, and 14 for each run of like
-    /// clusters, so that most texts have many more rows in it. Where the rows of a whole text may be kept, a paragraph is laid out
-    /// once and after its own edits alone. What is shown stays, and the next `show` forgets what is too much.
-    /// Cost: O(1); `show` then keeps up to 14 bytes for each run of a row.
-    pub fn keep_rows(&mut self, rows: usize)
-        requires { rows ≤ 1_000_000 }
-        ensures most { self.new ≡ record self.old { most = rows } }
-        ensures call { IsCall self.old (Keeps rows) false self.new }
-    {
-        self.most = Most { rows };
     }
 
     /// Lays out what is not kept of a window: the row of a place, and so many rows above and below it, at most 1,000 each.
@@ -438,6 +395,7 @@ impl Document {
         ensures window { OnOk result (self.new.window ≡ window_round self.old place above below) }
         // What has a row of it is laid out, unless it is kept.
         ensures laid { OnOk result (IsLaidOut self.old self.new place above below) }
+        ensures uncounted { OnErr result (self.new.laid ≡ self.old.laid) }
         ensures nothing { OnErr result (self.new.window ≡ no_window) }
         ensures forgotten { OnErr result (weight_kept self.new.paragraphs ≡ 0) }
         ensures desk { self.new.desk ≡ self.old.desk }
@@ -490,7 +448,7 @@ impl Document {
         Window::of(&self.buffer, self.shown)
     }
 
-    /// How many paragraphs the last `show` that answered Ok laid out, or 0 before the first.
+    /// How many paragraphs the window that was shown last took to lay out, a caret's too, or 0 before the first.
     #[inline]
     pub fn laid(&self) -> usize
         ensures { result ≡ self.now.laid }

@@ -34,6 +34,7 @@ impl Document {
         ensures drawn { IsDrawnAlike self.old self.new }
         ensures window { OnOk result (self.new.window ≡ no_window) }
         ensures kept { OnOk result (KeepsUntouched self.old self.new) }
+        ensures laid { self.new.laid ≡ self.old.laid }
         ensures call { IsCall self.old (Takes op.now) (is_err result) self.new }
     {
         let mut changes = Vec::new(self.alloc);
@@ -63,6 +64,7 @@ impl Document {
         ensures drawn { IsDrawnAlike self.old self.new }
         ensures window { OnOk result (self.new.window ≡ no_window) }
         ensures kept { OnOk result (KeepsUnchanged self.old.paragraphs self.new.paragraphs (drop (length changes.old.items) changes.new.items)) }
+        ensures laid { self.new.laid ≡ self.old.laid }
         ensures call { IsCall self.old (Takes op.now) (is_err result) self.new }
     {
         told_changes();
@@ -91,6 +93,7 @@ impl Document {
         ensures drawn { IsDrawnAlike self.old self.new }
         ensures window { OnOk result (self.new.window ≡ no_window) }
         ensures kept { OnOk result (IsBare self.new.paragraphs) }
+        ensures laid { self.new.laid ≡ self.old.laid }
     {
         let taken = self.desk.take(op)?;
         self.behind = true;
@@ -116,6 +119,7 @@ impl Document {
         ensures drawn { IsDrawnAlike self.old self.new }
         ensures window { self.new.window ≡ no_window }
         ensures kept { KeepsUntouched self.old self.new }
+        ensures laid { self.new.laid ≡ self.old.laid }
         ensures call { IsCall self.old (Merges other.now.set) (is_err result) self.new }
     {
         let mut changes = Vec::new(self.alloc);
@@ -154,6 +158,7 @@ impl Document {
         ensures drawn { IsDrawnAlike self.old self.new }
         ensures window { self.new.window ≡ no_window }
         ensures kept { KeepsUnchanged self.old.paragraphs self.new.paragraphs (drop (length changes.old.items) changes.new.items) }
+        ensures laid { self.new.laid ≡ self.old.laid }
         ensures call { IsCall self.old (Merges other.now.set) (is_err result) self.new }
     {
         told_changes();
@@ -185,6 +190,7 @@ impl Document {
         ensures drawn { IsDrawnAlike self.old self.new }
         ensures window { self.new.window ≡ no_window }
         ensures kept { IsBare self.new.paragraphs }
+        ensures laid { self.new.laid ≡ self.old.laid }
     {
         let outcome = self.desk.merge(other);
         self.behind = true;

@@ -48,6 +48,7 @@ impl Document {
         ensures drawn { IsDrawnAlike self.old self.new }
         ensures window { 0 < result.taken → self.new.window ≡ no_window }
         ensures kept { result.told ≡ true → KeepsUnchanged self.old.paragraphs self.new.paragraphs (drop (length changes.old.items) changes.new.items) }
+        ensures laid { self.new.laid ≡ self.old.laid }
         ensures bare { result.told ≡ false → IsBare self.new.paragraphs }
     {
         told_changes();

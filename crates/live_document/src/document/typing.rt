@@ -35,6 +35,7 @@ impl Document {
         ensures drawn { IsDrawnAlike self.old self.new }
         ensures window { OnOk result (self.new.window ≡ no_window) }
         ensures kept { OnOk result (KeepsOthers self.old.paragraphs self.new.paragraphs place place) }
+        ensures laid { self.new.laid ≡ self.old.laid }
     {
         let op = self.desk.type_char(place, ch)?;
         self.behind = follow_typed(&self.tables, &mut self.buffer, self.behind, place, ch);
@@ -56,6 +57,7 @@ impl Document {
         ensures drawn { IsDrawnAlike self.old self.new }
         ensures window { OnOk result (self.new.window ≡ no_window) }
         ensures kept { OnOk result (KeepsOthers self.old.paragraphs self.new.paragraphs place (place + 1)) }
+        ensures laid { self.new.laid ≡ self.old.laid }
     {
         // A place before the text's end has one behind it.
         let _end = self.desk.len();
