@@ -65,6 +65,7 @@ impl Document {
         ensures rows { whole_rows self.new ≡ whole_rows self.old }
         ensures desk { self.new.desk ≡ self.old.desk }
         ensures drawn { IsDrawnAlike self.old self.new }
+        ensures window { OnOk result (position.row ≤ length (visible self.old.desk.set) → self.new.window ≡ window_round self.old position.row 0 0) }
     {
         laws_below();
         self.refresh()?;
