@@ -16,8 +16,8 @@ use Rattle.cell_grid.specs.Rows.{DrawnRow}
 use Rattle.text_buffer.specs.Edits.{anew, IsParagraphOf, IsTouched, IsTouchedInTurn, AreTouched, Step}
 use Rattle.text_buffer.specs.declared.touched.Touched.{Touched}
 use Rattle.live_document.specs.Keeping.{Rows, KeptText, rows_weight, flags, is_kept}
-use Rattle.live_document.specs.Documents.{counted, paragraphs_of, IsLive}
-use Rattle.live_document.specs.Cost.{HasRow, IsBare, KeepsOthers, KeepsUnchanged, marks, unmarked, carried, stretch_marks}
+use Rattle.live_document.specs.Documents.{LiveDocument, counted, paragraphs_of, IsLive}
+use Rattle.live_document.specs.Cost.{HasRow, IsBare, IsLaidOut, KeepsOthers, KeepsUnchanged, allowed, marks, unmarked, weight_kept, weight_outside, carried, stretch_marks}
 use Rattle.live_document.specs.declared.shown.Shown.{Shown}
 use Rattle.live_document.proofs.Marks.{count-cons, cond-most}
 
@@ -240,3 +240,27 @@ row-alike one two width base texts same points alike number row h e f g =
 pub of-ok : {A E : Type 0} {P : A → Type 0} (r : Result A E) → is_err r ≡ false → IfOk r P → (v : A) × P v
 of-ok (Ok v) e h = (v, h)
 of-ok (Err x) e h = cc
+
+-- a window that was laid out of the same paragraphs was laid out of these
+pub laid-from : (mid old new : LiveDocument) (place above below : ℕ) → mid.paragraphs ≡ old.paragraphs → IsLaidOut mid new place above below → IsLaidOut old new place above below
+laid-from mid old new place above below alike h = record {
+  first = h.first;
+  end = h.end;
+  order = h.order;
+  top = h.top;
+  bottom = h.bottom;
+  laid = h.laid ∙ ap (λ ps. unmarked (marks ps) h.first h.end) alike;
+  kept = h.kept;
+  stays =
+      subst (λ (ps : List (KeptParagraph ℕ)). weight_outside ps h.first h.end + weight_kept (slice_range new.paragraphs h.first h.end) ≤ allowed new.most new.width (length new.window.rows)
+      → (k : ℕ) → is_kept (marks ps) k ≡ true → is_kept (marks new.paragraphs) k ≡ true) alike h.stays;
+  held = h.held;
+  texts = h.texts;
+  same = h.same ∙ ap paragraphs_in alike;
+}
+
+-- so it is where it may not have been counted
+pub counted-from : (mid old new : LiveDocument) (place above below : ℕ) → mid.paragraphs ≡ old.paragraphs → mid.laid ≡ old.laid
+    → (new.laid ≡ mid.laid) ⊎ IsLaidOut mid new place above below → (new.laid ≡ old.laid) ⊎ IsLaidOut old new place above below
+counted-from mid old new place above below alike count (inl same) = inl (same ∙ count)
+counted-from mid old new place above below alike count (inr h) = inr (laid-from mid old new place above below alike h)

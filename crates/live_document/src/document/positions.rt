@@ -1,12 +1,13 @@
 //! Carets of a document, named without the numbers of rows: *CaretMoves* on the grid of the whole text.
 
-ghost use Rattle.std.specs.Prelude.{◌≡◌, ◌≤◌, true, length, IfOk, OnOk};
+ghost use Rattle.std.specs.Prelude.{◌≡◌, ◌≤◌, ◌<◌, ◌⊎◌, true, length, IfOk, OnOk, OnErr};
 ghost use Rattle.std.specs.Bool.{OnTrue, OnFalse};
 ghost use Rattle.rga_tree.specs.TextOf.{visible};
 ghost use Rattle.cell_grid.specs.Grids.{IsDrawn};
 ghost use Rattle.cell_grid.specs.Windows.{row_at, begins_by, FirstPlacesRise};
 ghost use Rattle.caret.specs.Moves.{right_of, left_of, up_of, down_of, caret_under};
 ghost use Rattle.caret.specs.Positions.{position_at, position_moved, position_of, IsPositionOf};
+ghost use Rattle.live_document.specs.Cost.{IsLaidOut};
 ghost use Rattle.live_document.specs.Documents.{whole_grid, whole_rows, window_round, IsDrawnAlike};
 
 use crate::document::Document;
@@ -31,6 +32,8 @@ impl Document {
         ensures desk { self.new.desk ≡ self.old.desk }
         ensures drawn { IsDrawnAlike self.old self.new }
         ensures window { OnOk result (self.new.window ≡ window_round self.old place 0 0) }
+        ensures laid { OnOk result (IsLaidOut self.old self.new place 0 0) }
+        ensures uncounted { OnErr result ((self.new.laid ≡ self.old.laid) ⊎ IsLaidOut self.old self.new place 0 0) }
     {
         laws_below();
         self.refresh()?;
@@ -50,6 +53,8 @@ impl Document {
         ensures desk { self.new.desk ≡ self.old.desk }
         ensures drawn { IsDrawnAlike self.old self.new }
         ensures window { OnOk result (self.new.window ≡ window_round self.old place 0 0) }
+        ensures laid { OnOk result (IsLaidOut self.old self.new place 0 0) }
+        ensures uncounted { OnErr result ((self.new.laid ≡ self.old.laid) ⊎ IsLaidOut self.old self.new place 0 0) }
     {
         laws_below();
         self.refresh()?;
@@ -66,6 +71,9 @@ impl Document {
         ensures desk { self.new.desk ≡ self.old.desk }
         ensures drawn { IsDrawnAlike self.old self.new }
         ensures window { OnOk result (position.row ≤ length (visible self.old.desk.set) → self.new.window ≡ window_round self.old position.row 0 0) }
+        ensures laid { OnOk result (position.row ≤ length (visible self.old.desk.set) → IsLaidOut self.old self.new position.row 0 0) }
+        ensures outside { OnOk result (length (visible self.old.desk.set) < position.row → self.new.laid ≡ self.old.laid) }
+        ensures uncounted { OnErr result ((self.new.laid ≡ self.old.laid) ⊎ IsLaidOut self.old self.new position.row 0 0) }
     {
         laws_below();
         self.refresh()?;
@@ -87,6 +95,8 @@ impl Document {
         ensures desk { self.new.desk ≡ self.old.desk }
         ensures drawn { IsDrawnAlike self.old self.new }
         ensures window { OnOk result (self.new.window ≡ window_round self.old position.row 1 1) }
+        ensures laid { OnOk result (IsLaidOut self.old self.new position.row 1 1) }
+        ensures uncounted { OnErr result ((self.new.laid ≡ self.old.laid) ⊎ IsLaidOut self.old self.new position.row 1 1) }
     {
         laws_below();
         self.refresh()?;
@@ -105,6 +115,8 @@ impl Document {
         ensures desk { self.new.desk ≡ self.old.desk }
         ensures drawn { IsDrawnAlike self.old self.new }
         ensures window { OnOk result (self.new.window ≡ window_round self.old position.row 1 1) }
+        ensures laid { OnOk result (IsLaidOut self.old self.new position.row 1 1) }
+        ensures uncounted { OnErr result ((self.new.laid ≡ self.old.laid) ⊎ IsLaidOut self.old self.new position.row 1 1) }
     {
         laws_below();
         self.refresh()?;
@@ -123,6 +135,8 @@ impl Document {
         ensures desk { self.new.desk ≡ self.old.desk }
         ensures drawn { IsDrawnAlike self.old self.new }
         ensures window { OnOk result (self.new.window ≡ window_round self.old position.row 1 1) }
+        ensures laid { OnOk result (IsLaidOut self.old self.new position.row 1 1) }
+        ensures uncounted { OnErr result ((self.new.laid ≡ self.old.laid) ⊎ IsLaidOut self.old self.new position.row 1 1) }
     {
         laws_below();
         self.refresh()?;
@@ -141,6 +155,8 @@ impl Document {
         ensures desk { self.new.desk ≡ self.old.desk }
         ensures drawn { IsDrawnAlike self.old self.new }
         ensures window { OnOk result (self.new.window ≡ window_round self.old position.row 1 1) }
+        ensures laid { OnOk result (IsLaidOut self.old self.new position.row 1 1) }
+        ensures uncounted { OnErr result ((self.new.laid ≡ self.old.laid) ⊎ IsLaidOut self.old self.new position.row 1 1) }
     {
         laws_below();
         self.refresh()?;
@@ -154,6 +170,8 @@ impl Document {
         ensures whole { OnOk result (IsDrawn (whole_grid self.old)) }
         ensures desk { self.new.desk ≡ self.old.desk }
         ensures drawn { IsDrawnAlike self.old self.new }
+        ensures paragraphs { self.new.paragraphs ≡ self.old.paragraphs }
+        ensures laid { self.new.laid ≡ self.old.laid }
     {
         self.shown = Shown::nothing();
         catch_up(
@@ -177,6 +195,8 @@ impl Document {
         ensures desk { self.new.desk ≡ self.old.desk }
         ensures drawn { IsDrawnAlike self.old self.new }
         ensures window { OnOk result (self.new.window ≡ window_round self.old place around around) }
+        ensures laid { OnOk result (IsLaidOut self.old self.new place around around) }
+        ensures uncounted { OnErr result ((self.new.laid ≡ self.old.laid) ⊎ IsLaidOut self.old self.new place around around) }
     {
         self.show(place, around, around)?;
         self.window().to_rows(self.alloc)

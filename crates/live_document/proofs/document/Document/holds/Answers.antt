@@ -7,6 +7,8 @@ use Rattle.cell_grid.specs.Rows.{DrawnRow}
 use Rattle.cell_grid.specs.Windows.{FirstPlacesRise, begins_by}
 use Rattle.caret.specs.Positions.{IsPositionOf}
 use Rattle.live_document.specs.Documents.{LiveDocument, whole_grid}
+use Rattle.live_document.proofs.Cost.{laid-from, counted-from}
+use Rattle.live_document.proofs.Forgotten.{on-err}
 use Rattle.live_document.proofs.Round.{position-seen}
 use Rattle.live_document.proofs.Positions.{seen-alike, position-place, whole-rises, whole-begun, shown-rises, shown-begun, shown-stands}
 use Rattle.live_document.proofs.document.Document.holds.Goals as goal
@@ -50,3 +52,10 @@ returns-clause-no c =
     OnFalse_from c.stands_among.result _ (λ no stands. OnFalse_at no c.stands_among.ensures.no
     (subst (λ (l : List DrawnRow). IsPositionOf l p) (sym (c.deref.ensures.value ∙ seen))
     (position-seen (whole_grid d).rows (whole-rises below (whole_grid d) drawn) p.row (whole-begun below (whole_grid d) drawn p.row) 0 0 p refl stands)))
+
+pub returns-clause-laid : goal.returns-clause-laid
+returns-clause-laid c = λ within. laid-from c.refresh.new.self c.args.self.now c.rows_round.new.self c.args.position.row 0 0 c.refresh.ensures.paragraphs c.in_ok-rows.ensures.laid
+
+pub returns-in_err-rows-clause-uncounted : goal.returns-in_err-rows-clause-uncounted
+returns-in_err-rows-clause-uncounted c =
+    on-err c.from_residual-in_err-rows.result (counted-from c.refresh.new.self c.args.self.now c.rows_round.new.self c.args.position.row 0 0 c.refresh.ensures.paragraphs c.refresh.ensures.laid c.in_err-rows.ensures.uncounted)

@@ -7,6 +7,8 @@ use Rattle.caret.specs.Gaps.{IsCaretOf}
 use Rattle.caret.specs.Moves.{caret_under}
 use Rattle.caret.specs.Positions.{position_of, IsPositionOf}
 use Rattle.live_document.specs.Documents.{whole_grid}
+use Rattle.live_document.proofs.Cost.{laid-from, counted-from}
+use Rattle.live_document.proofs.Forgotten.{on-err}
 use Rattle.live_document.proofs.Positions.{seen-alike, shown-caret, alone-some, alone-under}
 use Rattle.live_document.proofs.document.Document.position_in.Goals as goal
 
@@ -39,3 +41,10 @@ returns-clause-stands c =
     let within = subst (λ (l : List DrawnRow). IsCaretOf l caret) (c.deref-2.ensures.value ∙ seen) c.at_column_among.ensures.within in
     subst (IsPositionOf (whole_grid d).rows) (sym (c.of.ensures ∙ ap (λ (l : List DrawnRow). position_of l caret) (c.deref.ensures.value ∙ seen)))
     (shown-caret c.laws_below.ensures (whole_grid d) c.in_ok-refresh.ensures.whole place 0 caret within)
+
+pub returns-clause-laid : goal.returns-clause-laid
+returns-clause-laid c = laid-from c.refresh.new.self c.args.self.now c.rows_round.new.self c.args.place 0 0 c.refresh.ensures.paragraphs c.in_ok-rows.ensures.laid
+
+pub returns-in_err-rows-clause-uncounted : goal.returns-in_err-rows-clause-uncounted
+returns-in_err-rows-clause-uncounted c =
+    on-err c.from_residual-in_err-rows.result (counted-from c.refresh.new.self c.args.self.now c.rows_round.new.self c.args.place 0 0 c.refresh.ensures.paragraphs c.refresh.ensures.laid c.in_err-rows.ensures.uncounted)

@@ -1,13 +1,15 @@
 -- The paragraphs' text is one that is drawn.
-use Rattle.std.proofs.Common.{◌≡◌, inl, length, refl, sym, ap, subst, arith}
+use Rattle.std.proofs.Common.{◌≡◌, inl, ℕ, List, length, refl, sym, ap, ap₂, subst, ◌∙◌, arith}
 use Rattle.std.specs.Prelude.{encode_utf8_all}
 use Rattle.std.specs.Str.{IsUtf8}
 use Rattle.unicode_tables.specs.Tables.{TableValues}
+use Rattle.paragraphs.specs.Paragraphs.{paragraph_points}
 use Rattle.rga_tree.specs.TextOf.{text}
 use Rattle.cell_grid.specs.Grids.{IsDrawn}
 use Rattle.text_buffer.specs.Buffers.{text_in}
 use Rattle.live_document.specs.Documents.{LiveDocument, whole_grid}
 use Rattle.live_document.specs.Keeping.{IsKeptAt}
+use Rattle.live_document.proofs.Cost.{live-caught as paragraphs-caught}
 use Rattle.live_document.proofs.Followed.{live-caught, nothing-at_hand, nothing-window}
 use Rattle.live_document.proofs.document.Document.refresh.Goals as goal
 
@@ -26,6 +28,14 @@ returns-clause-whole c =
       size = omega (arith, ap (λ points. length (encode_utf8_all points)) is, b.bytes, b.few);
       rows = refl;
     })
+
+pub returns-clause-paragraphs : goal.returns-clause-paragraphs
+returns-clause-paragraphs c =
+    let i = c.self.inside in
+    let caught = c.in_ok-catch_up.ensures in
+    let before = subst (λ (tables : TableValues). IsKeptAt tables i.width i.base i.buffer) (sym c.deref.ensures) c.self.invariant.kept_at in
+    let split = (caught.kept i.width i.base before).split ∙ ap₂ (λ (t : TableValues) (ps : List ℕ). paragraph_points t ps) c.deref.ensures caught.text in
+    paragraphs-caught i.behind i.tables.value i.desk.set i.buffer c.catch_up.new.buffer caught.same caught.nothing split ∙ ap (λ (d : LiveDocument). d.paragraphs) c.self.view_is
 
 pub invariant_of-self-2 : goal.invariant_of-self-2
 invariant_of-self-2 c =

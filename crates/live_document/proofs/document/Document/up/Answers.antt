@@ -8,6 +8,8 @@ use Rattle.caret.specs.Gaps.{IsCaretOf}
 use Rattle.caret.specs.Moves.{up_of}
 use Rattle.caret.specs.Positions.{caret_of, position_of, IsPositionOf}
 use Rattle.live_document.specs.Documents.{whole_grid}
+use Rattle.live_document.proofs.Cost.{laid-from, counted-from}
+use Rattle.live_document.proofs.Forgotten.{on-err}
 use Rattle.live_document.proofs.Positions.{seen-alike, position-place, shown-rises, shown-caret, near-stands, near-moves, near-moved}
 use Rattle.live_document.proofs.document.Document.up.Goals as goal
 
@@ -54,3 +56,10 @@ returns-clause-stands c =
     let within = subst (λ (l : List DrawnRow). IsCaretOf l moved) (c.deref-3.ensures.value ∙ seen) c.up_among.ensures.within in
     subst (IsPositionOf (whole_grid d).rows) (sym (c.of.ensures ∙ ap (λ (l : List DrawnRow). position_of l moved) (c.deref-2.ensures.value ∙ seen)))
     (shown-caret c.laws_below.ensures (whole_grid d) c.in_ok-refresh.ensures.whole p.row 1 moved within)
+
+pub returns-clause-laid : goal.returns-clause-laid
+returns-clause-laid c = laid-from c.refresh.new.self c.args.self.now c.rows_round.new.self c.args.position.row 1 1 c.refresh.ensures.paragraphs c.in_ok-rows.ensures.laid
+
+pub returns-in_err-rows-clause-uncounted : goal.returns-in_err-rows-clause-uncounted
+returns-in_err-rows-clause-uncounted c =
+    on-err c.from_residual-in_err-rows.result (counted-from c.refresh.new.self c.args.self.now c.rows_round.new.self c.args.position.row 1 1 c.refresh.ensures.paragraphs c.refresh.ensures.laid c.in_err-rows.ensures.uncounted)
