@@ -250,6 +250,18 @@ fn a_full_text_takes_no_more(rt: HostRuntime) {
                 }),
             ),
             Full(&[Cut { place: 7 }, Put { place: 7, ch: 'x' }], Ok(())),
+            // Neighbours are made together, or none of them.
+            Full(
+                &[
+                    Cut { place: 0 },
+                    Put { place: 0, ch: 'x' },
+                    Put { place: 1, ch: 'y' },
+                ],
+                Err(Stopped {
+                    made: 0,
+                    fault: BufferFault::TooLong,
+                }),
+            ),
         ],
     );
 }
