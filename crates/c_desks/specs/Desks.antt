@@ -180,13 +180,17 @@ IsIdentifierWritten s place told answer =
     ((answer ≡ 0) × (slice_get (visible_ids s) place ≡ Some (record { counter = told.counter; site = told.site })))
     ⊎ ((answer ≡ 107) × (length (visible s) ≤ place) × (told ≡ no_identifier))
 
+-- these numbers are an identifier's
+abbrev pub IsIdentifier : IdentifierNumbers → Type 0
+IsIdentifier id = (0 < id.counter) × IsSite id.site
+
 -- the place of an identifier was written; or it has none, or is none
 abbrev pub IsPlaceWritten : OperationSet → IdentifierNumbers → (told answer : ℕ) → Type 0
 IsPlaceWritten s id told answer =
     let it : Identifier = record { counter = id.counter; site = id.site } in
     ((answer ≡ 0) × IsAttached s.ins it × (told ≡ visible_before s it))
-    ⊎ (((answer ≡ 114) × (¬ (IsAttached s.ins it)) × (told ≡ 0))
-    ⊎ ((answer ≡ 113) × (¬ ((0 < id.counter) × IsSite id.site)) × (told ≡ 0)))
+    ⊎ (((answer ≡ 114) × IsIdentifier id × (¬ (IsAttached s.ins it)) × (told ≡ 0))
+    ⊎ ((answer ≡ 113) × (¬ (IsIdentifier id)) × (told ≡ 0)))
 
 -- the file written, in version 2, spells a list that has each operation of the desk once; or there was no memory to make it
 abbrev pub IsSaved : Desk → (before after : List ℕ) → (told answer : ℕ) → Type 0
