@@ -66,7 +66,7 @@ erasing_accepted desk from to room Full refused = omega (arith, room, refused.1)
 erasing_accepted desk from to room Memory refused = refused
 
 pub not_erased : (desk : Desk) (from to room told answer : ℕ) → IsRefusedExchange desk from to 0 room told answer → IsRefusedErasing desk from to room told answer
-not_erased desk from to room told answer (inl memory) = inl (memory.0, λ one. absurd (omega (arith, (memory.1 (omega (arith, one))).0)))
+not_erased desk from to room told answer (inl memory) = inl (memory.0, (λ one. absurd (omega (arith, (memory.1 (omega (arith, one))).0))), memory.2)
 not_erased desk from to room told answer (inr (inl place)) = inr (inl place)
 not_erased desk from to room told answer (inr (inr (inl short))) = inr (inr (inl short))
 not_erased desk from to room told answer (inr (inr (inr (inl spent)))) = absurd (omega (arith, spent.1))

@@ -52,7 +52,7 @@ typed_exchange old new from to ch chs before after told has key t =
 
 pub untyped_exchange : (desk : Desk) (from to ch : ℕ) (chs : List ℕ) (room told answer : ℕ) → HasRoomFor desk from to (length chs) room → IsKeystroke (to - from) chs (Typed ch)
     → IsUntyped desk answer → IsRefusedExchange desk from to (length chs) room told answer
-untyped_exchange desk from to ch chs room told answer has key (inl memory) = inl (memory.0, λ _. (ap length key.1, memory.1))
+untyped_exchange desk from to ch chs room told answer has key (inl memory) = inl (memory.0, (λ _. (ap length key.1, memory.1, memory.2.0)), has)
 untyped_exchange desk from to ch chs room told answer has key (inr (inl spent)) = inr (inr (inr (inl (spent.0, omega (arith, ap length key.1, spent.1)))))
 untyped_exchange desk from to ch chs room told answer has key (inr (inr full)) = absurd (omega (arith, has.limited, ap length key.1, full.1.1))
 

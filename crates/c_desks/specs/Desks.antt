@@ -1,9 +1,9 @@
 -- What the calls do to a desk.
-use Rattle.std.specs.Prelude.{◌≡◌, ◌⊎◌, ◌<◌, ◌≤◌, ◌+◌, ◌-◌, ◌*◌, ◌++◌, ℕ, List, [], ◌∷◌, length, take, drop, slice_get, unwrap_or, Some, Result, Ok, Err}
+use Rattle.std.specs.Prelude.{◌≡◌, ◌⊎◌, ◌<◌, ◌≤◌, ◌+◌, ◌-◌, ◌*◌, ◌^◌, ◌++◌, ℕ, List, [], ◌∷◌, length, take, drop, slice_get, unwrap_or, Some, Result, Ok, Err}
 use Rattle.std.specs.Str.{chars, IsUtf8}
 use Rattle.core.specs.Char.{OutOfScalarRange}
 use Rattle.bg_types.specs.Identifier.{Identifier}
-use Rattle.bg_types.specs.OperationSet.{OperationSet, with_operation, size}
+use Rattle.bg_types.specs.OperationSet.{OperationSet, with_operation, next, size}
 use Rattle.bg_types.specs.declared.op.OpView.{OpView}
 use Rattle.rga_tree.specs.Attached.{IsAttached}
 use Rattle.rga_tree.specs.TextOf.{text, visible, visible_ids, visible_before}
@@ -14,13 +14,13 @@ use Rattle.op_codec.specs.declared.position.Version.TheVariants.{Two}
 use Rattle.op_codec.specs.Spelling.{Spells, SpellsIn, spelling}
 use Rattle.pending_ops.specs.Waiting.{ListsOnce}
 use Rattle.desk_replica.specs.Desk.{Desk, fresh}
-use Rattle.desk_replica.specs.Typing.{typed, insertion, IsTypedAt, IsTypeRefusal}
+use Rattle.desk_replica.specs.Typing.{typed, insertion, IsTypedAt, IsTypeRefusal, IsTypeRefused}
 use Rattle.desk_replica.specs.Replacement.{deletions, replacement, IsReplaceRefusal}
 use Rattle.desk_replica.specs.Merging.{with_operations, IsMerge}
 use Rattle.desk_replica.specs.Listed.{listed}
 use Rattle.desk_replica.specs.declared.answer.TakeFault.{TakeFault}
 use Rattle.desk_replica.specs.declared.answer.TypeFault.{TypeFault}
-use Rattle.desk_replica.specs.declared.answer.TypeFault.TheVariants.{CounterSpent, Full}
+use Rattle.desk_replica.specs.declared.answer.TypeFault.TheVariants.{CounterSpent, Full, Memory}
 use Rattle.desk_replica.specs.Taking.{AreTaken, IsRefusedNext}
 use Rattle.c_answers.specs.Copying.{IsCopied, IsLeft}
 use Rattle.c_desks.specs.Faults.{take_number, message_number}
@@ -83,17 +83,24 @@ pub record HasRoomFor (desk : Desk) (from to n room : ℕ) : Type 0 where
 abbrev pub IsUnwritten : (before after : List ℕ) → (told answer : ℕ) → Type 0
 IsUnwritten before after told answer = (after ≡ before) × ((answer ≡ 102 → ⊥) → told ≡ 0)
 
--- why a desk typed no character, with the fault's number. Where an operation is spare it is not lack of memory
+-- why a desk typed no character, with the fault's number. Lack of memory comes after the others, and not where an operation is
+-- spare
 abbrev pub IsUntyped : Desk → (answer : ℕ) → Type 0
 IsUntyped desk answer =
-    ((answer ≡ 9) × (desk.spare ≡ 0))
+    ((answer ≡ 9) × (desk.spare ≡ 0) × IsTypeRefused desk.set Memory)
     ⊎ (((answer ≡ 203) × IsTypeRefusal desk.set CounterSpent)
     ⊎ ((answer ≡ 202) × IsTypeRefusal desk.set Full))
 
--- the same, or what C asked for is none
+-- what C asked for is a character and a place, and a buffer of so many bytes has room for the message
+pub record MayType (desk : Desk) (place ch room : ℕ) : Type 0 where
+  pub character : ¬ (OutOfScalarRange ch)
+  pub within : place ≤ length (visible desk.set)
+  pub fits : 24 ≤ room
+
+-- why no character was typed for C: that, or what it asked for is none
 abbrev pub IsRefusedTyping : Desk → (place ch room told answer : ℕ) → Type 0
 IsRefusedTyping desk place ch room told answer =
-    IsUntyped desk answer
+    (MayType desk place ch room × IsUntyped desk answer)
     ⊎ (((answer ≡ 111) × OutOfScalarRange ch)
     ⊎ (((answer ≡ 107) × (length (visible desk.set) < place))
     ⊎ ((answer ≡ 102) × (room < 24) × (told ≡ 24))))
@@ -106,21 +113,22 @@ IsUnerased desk answer = (answer ≡ 202) × (size desk.set ≡ 1_000_000)
 abbrev pub IsRefusedErasing : Desk → (from to room told answer : ℕ) → Type 0
 IsRefusedErasing desk from to room told answer =
     let m = to - from in
-    ((answer ≡ 9) × (m ≡ 1 → ⊥))
+    ((answer ≡ 9) × (m ≡ 1 → ⊥) × HasRoomFor desk from to 0 room)
     ⊎ (((answer ≡ 107) × ((to < from) ⊎ (length (visible desk.set) < to)))
     ⊎ (((answer ≡ 102) × (room < replaced_size m 0) × (told ≡ replaced_size m 0))
     ⊎ ((answer ≡ 202) × (1_000_000 < size desk.set + m))))
 
--- lack of memory may refuse to put n characters in the place of m: of one it can only where it is typed, and no operation is
--- spare
+-- lack of memory may refuse to put n characters in the place of m: of one it can only where it is typed, a counter is left, and
+-- no operation is spare
 abbrev pub MayTakeMemory : Desk → (m n : ℕ) → Type 0
-MayTakeMemory desk m n = m + n ≡ 1 → (n ≡ 1) × (desk.spare ≡ 0)
+MayTakeMemory desk m n = m + n ≡ 1 → (n ≡ 1) × (desk.spare ≡ 0) × (next desk.set < 2 ^ 32)
 
--- why a desk put no n characters in the place of others
+-- why a desk put no n characters in the place of others. Of more than one, memory for the message is asked for before the
+-- counters are counted
 abbrev pub IsRefusedExchange : Desk → (from to n room told answer : ℕ) → Type 0
 IsRefusedExchange desk from to n room told answer =
     let m = to - from in
-    ((answer ≡ 9) × MayTakeMemory desk m n)
+    ((answer ≡ 9) × MayTakeMemory desk m n × HasRoomFor desk from to n room)
     ⊎ (((answer ≡ 107) × ((to < from) ⊎ (length (visible desk.set) < to)))
     ⊎ (((answer ≡ 102) × (room < replaced_size m n) × (told ≡ replaced_size m n))
     ⊎ (((answer ≡ 203) × IsReplaceRefusal desk.set m n CounterSpent)
@@ -160,7 +168,7 @@ IsMessageTaken desk bytes new told answer =
 abbrev pub IsRefusedOpening : (site : ℕ) → (file : List ℕ) → Taken → (answer : ℕ) → Type 0
 IsRefusedOpening site file told answer =
     ((answer ≡ 112) × (¬ (IsSite site)) × (told ≡ none_taken 0))
-    ⊎ (((answer ≡ 9) × (told ≡ none_taken 0))
+    ⊎ (((answer ≡ 9) × IsSite site × (told ≡ none_taken 0))
     ⊎ ((left : Desk) × IsMessageTaken (fresh site) file left told answer))
 
 -- what a merge answers
