@@ -52,10 +52,10 @@ pub record IsLaidOut (tables : TableValues) (width base : ℕ) (desk : Desk) (ne
   pub hidden : new.document.window ≡ no_window
   pub silent : IsSilent new
 
--- why no document was made
+-- why no document was made. Lack of memory comes after the others
 abbrev pub IsNotMade : (site width base : ℕ) → (answer : ℕ) → Type 0
 IsNotMade site width base answer =
-    (answer ≡ 9)
+    ((answer ≡ 9) × IsSite site × IsWidth width × (¬ (base_of base ≡ None)))
     ⊎ (((answer ≡ 112) × (¬ (IsSite site)))
     ⊎ (((answer ≡ 105) × (¬ (IsWidth width)))
     ⊎ ((answer ≡ 106) × (base_of base ≡ None))))
@@ -155,10 +155,16 @@ pub record IsShown (old : ToldDocument) (place above below : ℕ) (new : ToldDoc
   pub drawn : IsDrawnAlike old.document new.document
   pub alike : TellAlike old new
 
+-- there is such a place, and so many rows round its own are shown
+pub record MayShow (old : ToldDocument) (place above below : ℕ) : Type 0 where
+  pub within : place ≤ length (visible old.document.desk.set)
+  pub few_above : above ≤ 1_000
+  pub few_below : below ≤ 1_000
+
 -- why it is not: no memory, and nothing is shown; no such place, or more rows than are shown, and the document is as it was
 abbrev pub IsNotShown : (old : ToldDocument) → (place above below : ℕ) → (new : ToldDocument) → (answer : ℕ) → Type 0
 IsNotShown old place above below new answer =
-    ((answer ≡ 9) × (new.document.window ≡ no_window) × (new.document.desk ≡ old.document.desk) × IsDrawnAlike old.document new.document × TellAlike old new)
+    ((answer ≡ 9) × MayShow old place above below × (new.document.window ≡ no_window) × (new.document.desk ≡ old.document.desk) × IsDrawnAlike old.document new.document × TellAlike old new)
     ⊎ (((answer ≡ 107) × (length (visible old.document.desk.set) < place) × (new ≡ old))
     ⊎ ((answer ≡ 108) × ((1_000 < above) ⊎ (1_000 < below)) × (new ≡ old)))
 
@@ -189,7 +195,7 @@ IsColumnWritten old place column new told =
 -- why none was written: no memory, or no such place
 abbrev pub IsNoPlace : ToldDocument → (place : ℕ) → ToldDocument → (answer : ℕ) → Type 0
 IsNoPlace old place new answer =
-    ((answer ≡ 9) ⊎ ((answer ≡ 107) × (length (visible old.document.desk.set) < place))) × IsAsked old new
+    (((answer ≡ 9) × (place ≤ length (visible old.document.desk.set))) ⊎ ((answer ≡ 107) × (length (visible old.document.desk.set) < place))) × IsAsked old new
 
 -- a caret of the text's grid was moved by this move
 abbrev pub IsMoved : (List DrawnRow → Caret → Caret) → ToldDocument → (from : PositionNumbers) → ToldDocument → (to : PositionNumbers) → Type 0
@@ -197,7 +203,8 @@ IsMoved move old from new to =
     IsPositionOf (whole_rows old.document) (position_with from)
     × IsPositionWritten old (position_moved move (whole_rows old.document) (position_with from)) from.row 1 new to
 
--- why it was not: no memory, or the grid has no such row, or the row no such gap; it is as it was
+-- why it was not: no memory, which finding the row may take too, or the grid has no such row, or the row no such gap; it is as it
+-- was
 abbrev pub IsUnmoved : ToldDocument → (from : PositionNumbers) → ToldDocument → (to : PositionNumbers) → (answer : ℕ) → Type 0
 IsUnmoved old from new to answer =
     ((answer ≡ 9) ⊎ ((answer ≡ 110) × (¬ (IsPositionOf (whole_rows old.document) (position_with from))))) × (to ≡ from) × IsAsked old new

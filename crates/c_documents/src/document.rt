@@ -75,7 +75,7 @@ fn laid_out(
     desk: Desk,
 ) -> Result<Box<ToldDocument>, u32>
     ensures ok { IfOk result (λ boxed. IsLaidOut tables.now width base desk boxed.value × IsWidth width) }
-    ensures fault { IfErr result (λ fault. (fault ≡ 9) ⊎ (((fault ≡ 105) × (¬ (IsWidth width))) ⊎ ((fault ≡ 106) × (base_of base ≡ None)))) }
+    ensures fault { IfErr result (λ fault. ((fault ≡ 9) × IsWidth width × (¬ (base_of base ≡ None))) ⊎ (((fault ≡ 105) × (¬ (IsWidth width))) ⊎ ((fault ≡ 106) × (base_of base ≡ None)))) }
     ensures some { IfErr result (λ fault. 0 < fault) }
 {
     let Some(width) = width_of(width) else {
