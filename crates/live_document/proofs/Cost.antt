@@ -198,6 +198,16 @@ in_turn-counted old new (s ∷ steps) h =
 pub bare-behind : (tables : TableValues) (set : OperationSet) (kept : KeptText) → IsBare (paragraphs_of true tables set kept)
 bare-behind tables set kept = ap (map anew) (sym (texts-anew (paragraph_points tables (text set))))
 
+pub unkept-behind : (behind : Bool) (tables : TableValues) (set : OperationSet) (kept : KeptText) → (behind ≡ false → ⊥) → (k : ℕ) → is_kept (marks (paragraphs_of behind tables set kept)) k ≡ false
+unkept-behind false tables set kept behind k = absurd (behind refl)
+unkept-behind true tables set kept behind k =
+    ap (λ ms. is_kept ms k) (marks-anew (paragraph_points tables (text set))) ∙ none-at (length (paragraph_points tables (text set))) k
+  where
+    none-at : (n k : ℕ) → is_kept (replicate n false) k ≡ false
+    none-at zero k = refl
+    none-at (suc n) zero = refl
+    none-at (suc n) (suc k) = none-at n k
+
 module _ (tables : TableValues) (before after : OperationSet) (kept now : KeptText) where
   -- an edit of the paragraphs is one of the document, or they are behind
   pub keeps-others : (behind later : Bool) (from to : ℕ) → (later ≡ false → behind ≡ false) → (later ≡ false → (t : Touched) × IsTouched kept from to t now)

@@ -4,6 +4,7 @@ mod Marks
 mod Stretches
 mod Placing
 mod Windows
+mod Needed
 mod Spots
 mod Cursors
 mod Printed

@@ -1,5 +1,5 @@
 -- Of which paragraphs rows are kept, one after the other.
-use Rattle.std.proofs.Common.{◌≡◌, ℕ, suc, ◌+◌, ◌-◌, ◌<◌, ◌≤◌, inl, inr, Bool, true, false, cond, not, List, [], ◌∷◌, ◌++◌, length, get_or, set, take, drop, count_by, slice_range, flat_map, refl, sym, ap, ◌∙◌, arith, length-append}
+use Rattle.std.proofs.Common.{◌≡◌, ℕ, suc, ◌+◌, ◌-◌, ◌<◌, ◌≤◌, ◌⊎◌, inl, inr, Bool, true, false, cond, not, List, [], ◌∷◌, ◌++◌, length, get_or, set, take, drop, count_by, slice_range, flat_map, refl, sym, ap, ◌∙◌, arith, length-append}
 use Rattle.std.proofs.lemmas.Bool.{cases_lt}
 use Rattle.std.proofs.lemmas.List.{drop_more, length-set, get_or-set_same, get_or-set_other, ext_get_or}
 use Rattle.std.proofs.lemmas.List.Concat.{flat_map-append, flat_map-cons}
@@ -207,3 +207,10 @@ module _ (tables : TableValues) (width : ℕ) (base : Base) where
 -- the one that was set
 pub set-mark : (marks new : List Bool) (n : ℕ) → new ≡ set marks n true → n < length marks → is_kept new n ≡ true
 set-mark marks new n is within = ap (λ l. is_kept l n) is ∙ get_or-set_same marks n true false within
+
+-- and the others
+pub set-apart : (marks new : List Bool) (n k : ℕ) → new ≡ set marks n true → (k < n) ⊎ (n < k) → is_kept new k ≡ is_kept marks k
+set-apart marks new n k is apart = elim apart [
+  | inl below ↦ ap (λ l. is_kept l k) is ∙ get_or-set_other marks n k true false (λ s. omega (arith, s))
+  | inr above ↦ ap (λ l. is_kept l k) is ∙ get_or-set_other marks n k true false (λ s. omega (arith, s))
+]

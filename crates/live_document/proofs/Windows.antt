@@ -260,11 +260,51 @@ module _ (below : LawsBelow) (tables : TableValues) (width : ℕ) (base : Base) 
       ∙ ap (λ ts. length (rows_of_texts tables width base ts)) (sym (slice-map (λ (p : Paragraph). code_points p.text) paras i j))
       ∙ ap (λ ts. length (rows_of_texts tables width base (slice_range ts i j))) (sym texts-are)
 
+  -- how many rows stand in front of a paragraph
+  pub front-more : (i j : ℕ) → i ≤ j → length (rows_of_texts tables width base (take j (paragraphs_in kept))) ≡ length (rows_of_texts tables width base (take i (paragraphs_in kept))) + length (rows_of_texts tables width base (slice_range (paragraphs_in kept) i j))
+  front-more i j order =
+      let texts = paragraphs_in kept in
+      let f = rows_of_text tables width base in
+      let e : j ≡ i + (j - i) = omega arith in
+      ap (λ n. length (flat_map f (take n texts))) e
+      ∙ ap (λ l. length (flat_map f l)) (take-add i (j - i) texts)
+      ∙ ap length (flat_map-append f (take i texts) (take (j - i) (drop i texts)))
+      ∙ length-append (flat_map f (take i texts)) (flat_map f (take (j - i) (drop i texts)))
+
+  pub front-one : (n : ℕ) → n < length kept → length (rows_of_texts tables width base (take (n + 1) (paragraphs_in kept))) ≡ length (rows_of_texts tables width base (take n (paragraphs_in kept))) + length (rows_of_text tables width base (get_or (paragraphs_in kept) n []))
+  front-one n here =
+      let texts = paragraphs_in kept in
+      let size = count-texts kept in
+      let a = front-more n (n + 1) (omega arith) in
+      let b = rows-down tables width base texts n n (omega arith) (omega arith) in
+      let c = rows-none tables width base texts n in
+      omega arith
+
+  -- no paragraph is without a row
+  pub front-rises-by-one : (n : ℕ) → n < length kept → length (rows_of_texts tables width base (take n (paragraphs_in kept))) < length (rows_of_texts tables width base (take (n + 1) (paragraphs_in kept)))
+  front-rises-by-one n here =
+      let d : Paragraph = record { text = []; first_byte = 0; first_place = 0 } in
+      let at = slice_get-get_or paras n d (omega (arith, count-paras)) in
+      let p = get_or paras n d in
+      let some = own-some n p at in
+      let one = front-one n here in
+      let same = ap length (own-text n p at) in
+      let many = length-map (rows_of tables width base p.text) (shifted p.first_byte p.first_place) in
+      omega arith
+
+  front-are : (n : ℕ) → length (flat_map rows (take n paras)) ≡ length (rows_of_texts tables width base (take n (paragraphs_in kept)))
+  front-are n =
+      count-rows tables width base (take n paras) (All-take IsText n paras texts)
+      ∙ ap (λ ts. length (rows_of_texts tables width base ts)) (sym (take-map (λ (p : Paragraph). code_points p.text) n paras))
+      ∙ ap (λ ts. length (rows_of_texts tables width base (take n ts))) (sym texts-are)
+
+  pub all-rows : length (flat_map rows paras) ≡ length (rows_of_texts tables width base (take (length kept) (paragraphs_in kept)))
+  all-rows = ap (λ l. length (flat_map rows l)) (sym (take_all (length kept) paras (omega (arith, count-paras)))) ∙ front-are (length kept)
+
   -- ---- the window
 
   module _ (place above beyond number first end row count up down : ℕ) (q : Paragraph) (is : slice_get paras number ≡ Some q)
       (stands : IsParagraphOf (paragraphs_in kept) place number) (low : first ≤ number) (high : number < end) (last : end ≤ length kept)
-      (there : (k : ℕ) → first ≤ k → k < end → is_kept (flags kept) k ≡ true)
       (has : IsRowOf tables width base (paragraphs_in kept) place number row count)
       (ups : up ≡ length (rows_of_texts tables width base (slice_range (paragraphs_in kept) first number)))
       (downs : down ≡ length (rows_of_texts tables width base (slice_range (paragraphs_in kept) (number + 1) end)))
@@ -361,48 +401,7 @@ module _ (below : LawsBelow) (tables : TableValues) (width : ℕ) (base : Base) 
       ];
     }
 
-    -- how many rows stand in front of a paragraph
-    front-more : (i j : ℕ) → i ≤ j → length (rows_of_texts tables width base (take j (paragraphs_in kept))) ≡ length (rows_of_texts tables width base (take i (paragraphs_in kept))) + length (rows_of_texts tables width base (slice_range (paragraphs_in kept) i j))
-    front-more i j order =
-        let texts = paragraphs_in kept in
-        let f = rows_of_text tables width base in
-        let e : j ≡ i + (j - i) = omega arith in
-        ap (λ n. length (flat_map f (take n texts))) e
-        ∙ ap (λ l. length (flat_map f l)) (take-add i (j - i) texts)
-        ∙ ap length (flat_map-append f (take i texts) (take (j - i) (drop i texts)))
-        ∙ length-append (flat_map f (take i texts)) (flat_map f (take (j - i) (drop i texts)))
-
-    front-one : (n : ℕ) → n < length kept → length (rows_of_texts tables width base (take (n + 1) (paragraphs_in kept))) ≡ length (rows_of_texts tables width base (take n (paragraphs_in kept))) + length (rows_of_text tables width base (get_or (paragraphs_in kept) n []))
-    front-one n here =
-        let texts = paragraphs_in kept in
-        let size = count-texts kept in
-        let a = front-more n (n + 1) (omega arith) in
-        let b = rows-down tables width base texts n n (omega arith) (omega arith) in
-        let c = rows-none tables width base texts n in
-        omega arith
-
-    -- no paragraph is without a row
-    front-rises-by-one : (n : ℕ) → n < length kept → length (rows_of_texts tables width base (take n (paragraphs_in kept))) < length (rows_of_texts tables width base (take (n + 1) (paragraphs_in kept)))
-    front-rises-by-one n here =
-        let d : Paragraph = record { text = []; first_byte = 0; first_place = 0 } in
-        let at = slice_get-get_or paras n d (omega (arith, count-paras)) in
-        let p = get_or paras n d in
-        let some = own-some n p at in
-        let one = front-one n here in
-        let same = ap length (own-text n p at) in
-        let many = length-map (rows_of tables width base p.text) (shifted p.first_byte p.first_place) in
-        omega arith
-
-    front-are : (n : ℕ) → length (flat_map rows (take n paras)) ≡ length (rows_of_texts tables width base (take n (paragraphs_in kept)))
-    front-are n =
-        count-rows tables width base (take n paras) (All-take IsText n paras texts)
-        ∙ ap (λ ts. length (rows_of_texts tables width base ts)) (sym (take-map (λ (p : Paragraph). code_points p.text) n paras))
-        ∙ ap (λ ts. length (rows_of_texts tables width base (take n ts))) (sym texts-are)
-
-    all-rows : length (flat_map rows paras) ≡ length (rows_of_texts tables width base (take (length kept) (paragraphs_in kept)))
-    all-rows = ap (λ l. length (flat_map rows l)) (sym (take_all (length kept) paras (omega (arith, count-paras)))) ∙ front-are (length kept)
-
-    grid-row : row_at (flat_map rows paras) place ≡ length (rows_of_texts tables width base (take number (paragraphs_in kept))) + row
+    pub grid-row : row_at (flat_map rows paras) place ≡ length (rows_of_texts tables width base (take number (paragraphs_in kept))) + row
     grid-row =
         ap (λ l. row_at l place) (parted number q is)
         ∙ row_at-second (flat_map rows (take number paras)) (rows q) (flat_map rows (drop (number + 1) paras)) place (own-begins number q is place place_is) behind
@@ -455,10 +454,10 @@ module _ (below : LawsBelow) (tables : TableValues) (width : ℕ) (base : Base) 
           ];
         }
 
-    pub window-cut : (s : Shown) → s.first ≡ first → s.skip ≡ up + row - above → s.count ≡ min (up + (count + down)) (up + row + beyond + 1) - (up + row - above)
+    pub window-cut : ((k : ℕ) → first ≤ k → k < end → is_kept (flags kept) k ≡ true) → (s : Shown) → s.first ≡ first → s.skip ≡ up + row - above → s.count ≡ min (up + (count + down)) (up + row + beyond + 1) - (up + row - above)
         → s.number ≡ up + row - (up + row - above)
         → (window_in kept s ≡ window_of above beyond place (flat_map rows paras)) × IsAtHand kept s
-    window-cut s at_first skip many number_is =
+    window-cut there s at_first skip many number_is =
         let st = stretch-from tables width base kept paras first end texts-are texts (follow-from first) (All-drop IsText first paras texts)
         (All-drop (IsLaid tables width base) first kept at.laid) (omega arith) last there in
         let rest = st.0 in

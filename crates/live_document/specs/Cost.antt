@@ -51,6 +51,20 @@ weight_outside paragraphs from to = weight_kept (take from paragraphs) + weight_
 abbrev pub allowed : (most width rows : ℕ) → ℕ
 allowed most width rows = max most (4 * max rows 64) * (48 + 20 * width)
 
+-- rows are kept of each paragraph from the one that has one row to the one that has another
+pub record AreKept (tables : TableValues) (width : ℕ) (base : Base) (texts : List (List ℕ)) (ms : List Bool) (top bottom : ℕ) : Type 0 where
+  pub first : ℕ
+  pub last : ℕ
+  pub order : first ≤ last
+  pub top_in : HasRow tables width base texts first top
+  pub bottom_in : HasRow tables width base texts last bottom
+  pub kept : (k : ℕ) → first ≤ k → k ≤ last → is_kept ms k ≡ true
+
+-- so they are of a document's, of which one has a row in a window
+abbrev pub IsWindowKept : LiveDocument → (place above below : ℕ) → Type 0
+IsWindowKept d place above below =
+    AreKept d.tables d.width d.base (paragraphs_in d.paragraphs) (marks d.paragraphs) (top_of place above (whole_rows d)) (bottom_of place below (whole_rows d))
+
 -- a window was laid out: its rows are those of the paragraphs from `first` up to `end`; so many of these were laid out as were
 -- not kept, and all of them are kept now; what was kept of others stays, unless all weigh too much, and then so much of it goes
 -- that they do not, or all

@@ -10,7 +10,7 @@ ghost use Rattle.desk_replica.specs.Desk.{fresh};
 ghost use Rattle.desk_replica.specs.Merging.{with_operations};
 ghost use Rattle.desk_replica.specs.Replacement.{typed_text, deletions, replacement, IsTextRefusal, IsTextRefused, IsRangeRefused, IsReplaceRefusal, IsReplaceRefused};
 ghost use Rattle.desk_replica.specs.declared.answer.TypeFault.{TypeFault as Untyped};
-ghost use Rattle.live_document.specs.Cost.{weight_kept, IsLaidOut, KeepsOthers};
+ghost use Rattle.live_document.specs.Cost.{weight_kept, IsLaidOut, IsWindowKept, KeepsOthers};
 ghost use Rattle.live_document.specs.Documents.{window_round, IsDrawnAlike, IsWindowOf};
 ghost use Rattle.live_document.specs.Runs.{Types, Erases, Replaces, Shows, IsCall};
 ghost use Rattle.live_document.specs.Showing.{no_window};
@@ -396,6 +396,8 @@ impl Document {
         // What has a row of it is laid out, unless it is kept.
         ensures laid { OnOk result (IsLaidOut self.old self.new place above below) }
         ensures uncounted { OnErr result (self.new.laid ≡ self.old.laid) }
+        // What is kept takes no memory to show again.
+        ensures enough { IsWindowKept self.old place above below → IsOk result }
         ensures nothing { OnErr result (self.new.window ≡ no_window) }
         ensures forgotten { OnErr result (weight_kept self.new.paragraphs ≡ 0) }
         ensures desk { self.new.desk ≡ self.old.desk }

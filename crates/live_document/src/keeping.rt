@@ -1,6 +1,6 @@
 //! Rows that are kept beside paragraphs.
 
-ghost use Rattle.std.specs.Prelude.{◌≡◌, ◌+◌, ◌-◌, ◌*◌, ◌≤◌, ◌<◌, ◌⊎◌, ℕ, [], true, max, All, length, not, get_or, slice_set, slice_range, count_by, IfOk, OnOk, OnErr, if◌then◌else◌};
+ghost use Rattle.std.specs.Prelude.{◌≡◌, ◌+◌, ◌-◌, ◌*◌, ◌≤◌, ◌<◌, ◌⊎◌, ℕ, [], true, false, max, All, length, not, get_or, slice_set, slice_range, count_by, IfOk, OnOk, OnErr, IsOk, if◌then◌else◌};
 ghost use Rattle.bg_types.specs.declared.class.Base.{Base};
 ghost use Rattle.unicode_tables.specs.Tables.{TableValues};
 ghost use Rattle.text_buffer.specs.Buffers.{paragraphs_in};
@@ -138,6 +138,7 @@ pub fn lay_out(
     ensures held { IfOk result (λ out. weight_held buffer.new ≡ weight_held buffer.old + out.made) }
     ensures made { IfOk result (λ out. out.made ≤ out.weight) }
     ensures err { OnErr result (buffer.new ≡ buffer.old) }
+    ensures enough { is_kept (flags buffer.old) number ≡ true → IsOk result }
 {
     laws_below();
     // The text has no more bytes than it may.
@@ -202,6 +203,9 @@ pub fn reach_up(
     ensures once { IfOk result (λ reach. reach.laid + reach.number ≤ number) }
     ensures held { IfOk result (λ reach. weight_held buffer.new ≡ weight_held buffer.old + reach.made) }
     ensures made { IfOk result (λ reach. reach.made ≤ reach.weight) }
+    // Memory is taken for those alone that are wanted and not kept.
+    ensures refused { OnErr result ((k : ℕ) × (k < number) × (is_kept (flags buffer.old) k ≡ false)
+        × (length (rows_of_texts tables.now width base (slice_range (paragraphs_in buffer.old) (k + 1) number)) < wanted)) }
 {
     let mut first = number;
     let mut rows = 0;
@@ -254,6 +258,8 @@ pub fn reach_down(
     ensures once { IfOk result (λ reach. reach.laid + number ≤ reach.number) }
     ensures held { IfOk result (λ reach. weight_held buffer.new ≡ weight_held buffer.old + reach.made) }
     ensures made { IfOk result (λ reach. reach.made ≤ reach.weight) }
+    ensures refused { OnErr result ((k : ℕ) × (number ≤ k) × (k < length buffer.old) × (is_kept (flags buffer.old) k ≡ false)
+        × (length (rows_of_texts tables.now width base (slice_range (paragraphs_in buffer.old) number k)) < wanted)) }
 {
     let count = buffer.paragraph_count();
     let mut end = number;

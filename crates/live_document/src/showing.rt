@@ -1,11 +1,11 @@
 //! The rows of a window are laid out and kept.
 
-ghost use Rattle.std.specs.Prelude.{◌≡◌, ◌≤◌, ◌<◌, ◌+◌, ◌-◌, ◌*◌, ◌⊎◌, ℕ, true, [], min, max, length, get_or, not, count_by, slice_range, slice_set, encode_utf8_all, IfOk, if◌then◌else◌};
+ghost use Rattle.std.specs.Prelude.{◌≡◌, ◌≤◌, ◌<◌, ◌+◌, ◌-◌, ◌*◌, ◌⊎◌, ℕ, true, false, [], min, max, length, get_or, not, count_by, slice_range, slice_set, encode_utf8_all, IfOk, OnErr, IsOk, if◌then◌else◌};
 ghost use Rattle.cell_grid.specs.Grids.{grid_rows};
 ghost use Rattle.cell_grid.specs.Windows.{window_of};
 ghost use Rattle.text_buffer.specs.Buffers.{paragraphs_in, text_in};
 ghost use Rattle.text_buffer.specs.Edits.{IsParagraphOf};
-ghost use Rattle.live_document.specs.Cost.{allowed, top_of, bottom_of, HasRow};
+ghost use Rattle.live_document.specs.Cost.{allowed, top_of, bottom_of, AreKept, HasRow};
 ghost use Rattle.live_document.specs.Keeping.{flags, is_kept, rows_of_text, rows_weight, weight_held, held_outside, IsKeptAt};
 ghost use Rattle.live_document.specs.Showing.{window_in, IsAtHand, IsRowOf};
 
@@ -78,6 +78,7 @@ fn own_row(
     ensures most { IfOk result (λ own. own.weight ≤ 56_000_048 * own.rows) }
     ensures made { IfOk result (λ own. own.made ≤ own.weight) }
     ensures laid { IfOk result (λ own. own.laid ≡ (if is_kept (flags buffer.old) own.number then 0 else 1)) }
+    ensures refused { OnErr result ((number : ℕ) × IsParagraphOf (paragraphs_in buffer.old) place number × (is_kept (flags buffer.old) number ≡ false)) }
 {
     // All that is looked up for a window is near its place.
     buffer.go_to(place);
@@ -136,9 +137,14 @@ pub fn lay_window_out(
     ensures held { IfOk result (λ outcome. weight_held buffer.new ≤ outcome.held) }
     ensures few { IfOk result (λ outcome. outcome.held ≤ 900_000_000_000_000) }
     ensures laid { IfOk result (λ outcome. outcome.laid ≡ count_by not (slice_range (flags buffer.old) outcome.shown.first outcome.end)) }
+    ensures enough { AreKept tables.now width base (paragraphs_in buffer.old) (flags buffer.old)
+        (top_of place above (grid_rows tables.now width base (encode_utf8_all (text_in buffer.old))))
+        (bottom_of place below (grid_rows tables.now width base (encode_utf8_all (text_in buffer.old)))) → IsOk result }
 {
-    // There are no more paragraphs than can be counted.
+    laws_below();
+    // There are no more paragraphs than can be counted, and no more bytes than a text may have.
     let _count = buffer.paragraph_count();
+    let _bytes = buffer.bytes();
     let own = own_row(alloc, tables, width, base, buffer, place)?;
     let wanted_up = above.saturating_sub(own.row);
     let wanted_down = (below + own.row + 1).saturating_sub(own.rows);
@@ -162,8 +168,6 @@ pub fn lay_window_out(
         held + up.made + own.made + down.made,
         rows * (ROW_BYTES + ENTRY_BYTES * usize::from(width)),
     );
-    laws_below();
-    let _bytes = buffer.bytes();
     Ok(Outcome {
         shown,
         end: down.number,

@@ -93,3 +93,6 @@ returns-clause-most c = omega (arith, c.total-weight.ensures.few, ap length c.of
 
 pub returns-clause-laid : goal.returns-clause-laid
 returns-clause-laid c = sym (ap (λ b. cond {A = ℕ} b 0 1) (flag-kept c.args.buffer.now c.args.number _ c.in_default.ensures))
+
+pub returns-in_err-made-clause-enough : goal.returns-in_err-made-clause-enough
+returns-in_err-made-clause-enough c = λ kept. (let none = flag-kept c.args.buffer.now c.args.number _ c.in_default.ensures in cc)

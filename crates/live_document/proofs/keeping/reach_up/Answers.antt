@@ -1,7 +1,9 @@
 -- One paragraph more is laid out, in front of those that are.
 use Rattle.std.proofs.Common.{◌≡◌, ◌+◌, ◌-◌, ◌<◌, ℕ, [], cond, length, get_or, slice_range, refl, sym, ap, ◌∙◌, inl, arith}
+use Rattle.std.proofs.lemmas.Bool.{false_from_ne_true}
 use Rattle.text_buffer.specs.Buffers.{paragraphs_in}
 use Rattle.live_document.specs.Keeping.{flags, is_kept, rows_of_text, rows_of_texts, rows_weight}
+use Rattle.live_document.proofs.Forgotten.{on-err}
 use Rattle.live_document.proofs.Marks.{marked-none, marked-up, count-up, count-none, rows-up, rows-none, weight-up, weight-none, cond-most}
 use Rattle.live_document.proofs.Stretches.{count-texts, count-flags}
 use Rattle.live_document.proofs.keeping.reach_up.Goals as goal
@@ -60,3 +62,14 @@ loop-first-preserved c =
       laid_are = omega (arith, h.laid_are, marks, laid);
       laid_few = omega (arith, h.laid_few, laid, cond-most (is_kept (flags old) first));
     }
+
+pub returns-in_err-out-clause-refused : goal.returns-in_err-out-clause-refused
+returns-in_err-out-clause-refused c =
+    let h = c.loop-first.invariant in
+    let old = c.args.buffer.now in
+    let now = c.loop-first.buffer in
+    let first = c.loop-first.first - 1 in
+    let next : c.loop-first.first ≡ first + 1 = omega arith in
+    let rows = ap (λ n. length (rows_of_texts c.args.tables.now c.args.width c.args.base (slice_range (paragraphs_in old) n c.args.number))) next in
+    let none = sym (h.marked.outside first (inl (omega arith))) ∙ false_from_ne_true (is_kept (flags now) first) (λ there. (let e = c.in_err-out.ensures.enough there in cc)) in
+    on-err c.from_residual.result (first, omega (arith, h.order), none, omega (arith, rows, h.rows_are))

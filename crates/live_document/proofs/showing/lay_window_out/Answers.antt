@@ -1,10 +1,11 @@
 -- What was reached has the window.
-use Rattle.std.proofs.Common.{◌≡◌, ◌⊎◌, ◌+◌, ◌*◌, ◌-◌, ◌<◌, ◌≤◌, inl, inr, ℕ, true, [], not, drop, length, get_or, count_by, slice_range, sym, ap, subst, ◌∙◌, arith}
+use Rattle.std.proofs.Common.{◌≡◌, ◌⊎◌, ◌+◌, ◌*◌, ◌-◌, ◌<◌, ◌≤◌, inl, inr, ℕ, true, [], refl, not, drop, length, get_or, count_by, slice_range, sym, ap, subst, ◌∙◌, arith}
 use Rattle.std.proofs.lemmas.Nat.{mul-le}
 use Rattle.std.proofs.lemmas.Option.{slice_get-get_or}
 use Rattle.std.proofs.lemmas.List.Elements.{All-take, All-drop}
 use Rattle.std.specs.List.{concat}
 use Rattle.std.specs.Prelude.{encode_utf8_all}
+use Rattle.std.specs.Str.{IsUtf8}
 use Rattle.paragraphs.specs.Paragraphs.{Paragraph, paragraphs}
 use Rattle.cell_grid.specs.Grids.{grid_rows}
 use Rattle.cell_grid.specs.Windows.{window_of}
@@ -13,7 +14,8 @@ use Rattle.text_buffer.specs.Edits.{IsParagraphOf}
 use Rattle.live_document.specs.Cost.{allowed, top_of, bottom_of, HasRow}
 use Rattle.live_document.specs.Keeping.{Rows, flags, is_kept, weight_held, held_outside, rows_of_texts, rows_weight, IsKeptAt, IsLaid}
 use Rattle.live_document.specs.Showing.{window_in, IsRowOf}
-use Rattle.live_document.proofs.Marks.{marked-whole, laid-whole, weight-whole}
+use Rattle.live_document.proofs.Marks.{marked-whole, laid-whole, weight-whole, set-apart}
+use Rattle.live_document.proofs.Needed.{own-needed, up-needed, down-needed}
 use Rattle.live_document.proofs.Forgotten.{held-most}
 use Rattle.live_document.proofs.Placing.{slice-map}
 use Rattle.live_document.proofs.Staying.{kept-stays}
@@ -97,30 +99,31 @@ returns c =
     let f0 = count-flags b0 in
     let there = oe.number.there in
     let b = c.bytes-bytes.ensures in
-    let few : bytes_in (text_in b4) ≤ 4_000_000 = omega (arith, b.bytes, b.few) in
+    let utf8 = subst (λ ts. IsUtf8 (encode_utf8_all (concat ts))) (sym e04) b.utf8 in
+    let few : bytes_in (text_in b4) ≤ 4_000_000 = omega (arith, b.bytes, b.few, ap (λ ts. bytes_in (concat ts)) e04) in
     let whole = marked-whole (flags b0) (flags b1) (flags b2) (flags b3) up.number own.number down.number (omega arith) ue.order (omega (arith, de.order)) oe.marks ue.marked de.marked in
     let inside : (k : ℕ) → up.number ≤ k → k < down.number → is_kept (flags b4) k ≡ true = λ k from to. fe.inside k from to ∙ whole.inside k from to in
     let d : Paragraph = record { text = []; first_byte = 0; first_place = 0 } in
     let paras = paragraphs T (encode_utf8_all (text_in b4)) in
-    let many = count-paras c.laws_below.ensures T w base b4 at b.utf8 few in
+    let many = count-paras c.laws_below.ensures T w base b4 at utf8 few in
     let is = slice_get-get_or paras own.number d (omega arith) in
     let stands = subst (λ ts. IsParagraphOf ts place own.number) (sym e04) oe.number in
     let has = subst (λ ts. IsRowOf T w base ts place own.number own.row own.rows) (sym e04) oe.row in
     let ups = ue.rows ∙ ap (λ ts. length (rows_of_texts T w base (slice_range ts up.number own.number))) (e01 ∙ sym e04) in
     let downs = de.rows ∙ ap (λ ts. length (rows_of_texts T w base (slice_range ts (own.number + 1) down.number))) (e02 ∙ sym e04) in
-    let cut = window-cut c.laws_below.ensures T w base b4 at b.utf8 few place above below own.number up.number down.number own.row own.rows up.rows down.rows
-    (get_or paras own.number d) is stands ue.order (omega (arith, de.order)) (omega (arith, de.within)) inside has ups downs
+    let cut = window-cut c.laws_below.ensures T w base b4 at utf8 few place above below own.number up.number down.number own.row own.rows up.rows down.rows
+    (get_or paras own.number d) is stands ue.order (omega (arith, de.order)) (omega (arith, de.within)) has ups downs
     (elim ue.enough [ inl s ↦ inl (omega (arith, s, c.saturating_sub-wanted_up.ensures)) | inr n ↦ inr n ])
     (elim de.enough [ inl s ↦ inl (omega (arith, s, c.saturating_sub-wanted_down.ensures)) | inr n ↦ inr (omega (arith, n)) ])
-    c.cut_out-shown.result c.cut_out-shown.ensures.first c.cut_out-shown.ensures.skip c.cut_out-shown.ensures.count c.cut_out-shown.ensures.number in
-    let top = top-has c.laws_below.ensures T w base b4 at b.utf8 few place above below own.number up.number down.number own.row own.rows up.rows down.rows
-    (get_or paras own.number d) is stands ue.order (omega (arith, de.order)) (omega (arith, de.within)) inside has ups downs
+    inside c.cut_out-shown.result c.cut_out-shown.ensures.first c.cut_out-shown.ensures.skip c.cut_out-shown.ensures.count c.cut_out-shown.ensures.number in
+    let top = top-has c.laws_below.ensures T w base b4 at utf8 few place above below own.number up.number down.number own.row own.rows up.rows down.rows
+    (get_or paras own.number d) is stands ue.order (omega (arith, de.order)) (omega (arith, de.within)) has ups downs
     (elim ue.enough [ inl s ↦ inl (omega (arith, s, c.saturating_sub-wanted_up.ensures)) | inr n ↦ inr n ])
     (elim de.enough [ inl s ↦ inl (omega (arith, s, c.saturating_sub-wanted_down.ensures)) | inr n ↦ inr (omega (arith, n)) ])
     (λ h. let same = ap (λ ts. length (rows_of_texts T w base (slice_range ts (up.number + 1) own.number))) (e01 ∙ sym e04) in
     let n = ue.needed h in omega (arith, n, same, c.saturating_sub-wanted_up.ensures)) in
-    let bottom = bottom-has c.laws_below.ensures T w base b4 at b.utf8 few place above below own.number up.number down.number own.row own.rows up.rows down.rows
-    (get_or paras own.number d) is stands ue.order (omega (arith, de.order)) (omega (arith, de.within)) inside has ups downs
+    let bottom = bottom-has c.laws_below.ensures T w base b4 at utf8 few place above below own.number up.number down.number own.row own.rows up.rows down.rows
+    (get_or paras own.number d) is stands ue.order (omega (arith, de.order)) (omega (arith, de.within)) has ups downs
     (elim ue.enough [ inl s ↦ inl (omega (arith, s, c.saturating_sub-wanted_up.ensures)) | inr n ↦ inr n ])
     (elim de.enough [ inl s ↦ inl (omega (arith, s, c.saturating_sub-wanted_down.ensures)) | inr n ↦ inr (omega (arith, n)) ])
     (λ h. let same = ap (λ ts. length (rows_of_texts T w base (slice_range ts (own.number + 1) (down.number - 1)))) (e02 ∙ sym e04) in
@@ -155,4 +158,49 @@ returns c =
           laid-whole (flags b0) (flags b1) (flags b2) (flags b3) up.number own.number down.number (omega arith) ue.order (omega (arith, de.order)) oe.marks ue.marked de.marked
           own.laid up.laid down.laid (omega (arith, de.within)) oe.laid ue.laid de.laid
           ∙ ap (λ n. count_by not (slice_range (flags b0) n down.number)) (sym c.cut_out-shown.ensures.first);
+      enough = λ h. refl;
     }
+
+pub returns-in_err-own-clause-enough : goal.returns-in_err-own-clause-enough
+returns-in_err-own-clause-enough c = λ h.
+    let b = c.bytes-bytes.ensures in
+    let r = c.in_err-own.ensures.refused in
+    let needed = own-needed c.laws_below.ensures c.args.tables.now c.args.width c.args.base c.args.buffer.now c.requires.kept b.utf8 (omega (arith, b.bytes, b.few)) c.args.place r.0 r.1
+    c.args.above c.args.below h.first h.last h.top_in h.bottom_in in
+    let there = h.kept r.0 needed.0 needed.1 in
+    let none = r.2 in
+    cc
+
+pub returns-in_err-up-clause-enough : goal.returns-in_err-up-clause-enough
+returns-in_err-up-clause-enough c = λ h.
+    let b = c.bytes-bytes.ensures in
+    let own = c.in_ok-own.own in
+    let oe = c.in_ok-own.ensures in
+    let b0 = c.args.buffer.now in
+    let r = c.in_err-up.ensures.refused in
+    let rows = ap (λ ts. length (rows_of_texts c.args.tables.now c.args.width c.args.base (slice_range ts (r.0 + 1) own.number))) oe.paragraphs in
+    let needed = up-needed c.laws_below.ensures c.args.tables.now c.args.width c.args.base b0 c.requires.kept b.utf8 (omega (arith, b.bytes, b.few)) c.args.place own.number oe.number
+    c.args.above c.args.below h.first h.last h.top_in h.bottom_in own.row own.rows r.0 oe.row r.1 (omega (arith, rows, r.3, c.saturating_sub-wanted_up.ensures)) in
+    let there = h.kept r.0 needed.0 needed.1 in
+    let none = sym (set-apart (flags b0) (flags c.own_row.new.buffer) own.number r.0 oe.marks (inl r.1)) ∙ r.2 in
+    cc
+
+pub returns-in_err-down-clause-enough : goal.returns-in_err-down-clause-enough
+returns-in_err-down-clause-enough c = λ h.
+    let b = c.bytes-bytes.ensures in
+    let own = c.in_ok-own.own in
+    let oe = c.in_ok-own.ensures in
+    let ue = c.in_ok-up.ensures in
+    let b0 = c.args.buffer.now in
+    let b1 = c.own_row.new.buffer in
+    let b2 = c.reach_up.new.buffer in
+    let r = c.in_err-down.ensures.refused in
+    let texts = ue.paragraphs ∙ oe.paragraphs in
+    let n0 = count-texts b0 in
+    let n2 = count-texts b2 in
+    let rows = ap (λ ts. length (rows_of_texts c.args.tables.now c.args.width c.args.base (slice_range ts (own.number + 1) r.0))) texts in
+    let needed = down-needed c.laws_below.ensures c.args.tables.now c.args.width c.args.base b0 c.requires.kept b.utf8 (omega (arith, b.bytes, b.few)) c.args.place own.number oe.number
+    c.args.above c.args.below h.first h.last h.top_in h.bottom_in own.row own.rows r.0 oe.row r.1 (omega (arith, r.2, ap length texts, n0, n2)) (omega (arith, rows, r.4, c.saturating_sub-wanted_down.ensures)) in
+    let there = h.kept r.0 needed.0 needed.1 in
+    let none = sym (ue.marked.outside r.0 (inr (omega (arith, r.1))) ∙ set-apart (flags b0) (flags b1) own.number r.0 oe.marks (inr (omega (arith, r.1)))) ∙ r.3 in
+    cc

@@ -1,12 +1,15 @@
 -- The paragraph's rows rise, and the first begins by the place.
-use Rattle.std.proofs.Common.{◌≡◌, ◌-◌, ◌≤◌, [], length, get_or, take, sym, ap, subst, ◌∙◌, arith}
+use Rattle.std.proofs.Common.{◌≡◌, ◌-◌, ◌≤◌, ℕ, false, [], length, get_or, take, sym, ap, subst, ◌∙◌, arith}
+use Rattle.std.proofs.lemmas.Bool.{false_from_ne_true}
 use Rattle.std.specs.List.{concat}
 use Rattle.cell_grid.specs.Rows.{rows_of}
 use Rattle.text_buffer.specs.Buffers.{bytes_in, paragraphs_in, text_in}
+use Rattle.text_buffer.specs.Edits.{IsParagraphOf}
 use Rattle.cell_grid.specs.Windows.{FirstPlacesRise, begins_by, row_at}
-use Rattle.live_document.specs.Keeping.{flags, rows_of_text, rows_weight}
+use Rattle.live_document.specs.Keeping.{KeptText, flags, is_kept, rows_of_text, rows_weight}
 use Rattle.live_document.specs.Showing.{IsRowOf}
 use Rattle.live_document.proofs.Beside.{rows_at-laid}
+use Rattle.live_document.proofs.Forgotten.{on-err}
 use Rattle.live_document.proofs.Marks.{set-mark}
 use Rattle.live_document.proofs.Stretches.{count-texts, count-flags}
 use Rattle.live_document.proofs.Windows.{own-text, own-first, own-rises, own-begun}
@@ -111,3 +114,9 @@ pub returns-clause-weight : goal.returns-clause-weight
 returns-clause-weight c =
     subst (λ was. c.in_ok-out.out.weight ≡ rows_weight (rows_of_text c.args.tables.now c.args.width c.args.base (get_or (paragraphs_in was) c.paragraph_of-number.result []))) c.go_to.ensures
     c.in_ok-out.ensures.weight
+
+pub returns-in_err-out-clause-refused : goal.returns-in_err-out-clause-refused
+returns-in_err-out-clause-refused c =
+    let n = c.paragraph_of-number.result in
+    on-err c.from_residual.result (subst (λ (was : KeptText). (number : ℕ) × IsParagraphOf (paragraphs_in was) c.args.place number × (is_kept (flags was) number ≡ false)) c.go_to.ensures
+    (n, c.paragraph_of-number.ensures, false_from_ne_true (is_kept (flags c.go_to.new.self) n) (λ there. (let e = c.in_err-out.ensures.enough there in cc))))

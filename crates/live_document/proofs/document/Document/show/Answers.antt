@@ -5,13 +5,13 @@ use Rattle.paragraphs.specs.Paragraphs.{paragraph_points}
 use Rattle.rga_tree.specs.TextOf.{text}
 use Rattle.text_buffer.specs.Buffers.{paragraphs_in}
 use Rattle.unicode_tables.specs.Tables.{TableValues}
-use Rattle.live_document.specs.Cost.{allowed, top_of, bottom_of, marks, weight_outside, unmarked, IsLaidOut}
+use Rattle.live_document.specs.Cost.{allowed, top_of, bottom_of, marks, weight_outside, unmarked, IsLaidOut, IsWindowKept}
 use Rattle.live_document.specs.Documents.{LiveDocument, counted}
 use Rattle.live_document.specs.Keeping.{is_kept, IsKeptAt}
 use Rattle.live_document.specs.Showing.{window_in}
 use Rattle.live_document.proofs.Followed.{live-bare}
 use Rattle.live_document.proofs.Forgotten.{kept-held, none-behind, on-err, outside-held, shown-count, slice-held}
-use Rattle.live_document.proofs.Cost.{live-caught, marks-counted, row-alike, texts-counted, texts-live}
+use Rattle.live_document.proofs.Cost.{live-caught, unkept-behind, marks-counted, row-alike, texts-counted, texts-live}
 use Rattle.live_document.proofs.document.Document.show.Goals as goal
 
 pub lay_window_out-requires-clause-kept : goal.lay_window_out-requires-clause-kept
@@ -67,3 +67,32 @@ pub returns-in_err-catch_up-clause-forgotten : goal.returns-in_err-catch_up-clau
 returns-in_err-catch_up-clause-forgotten c =
     let i = c.self.inside in
     on-err c.from_residual.result (none-behind i.behind i.tables.value i.desk.set c.catch_up.new.buffer (λ is. (let e = c.in_err-catch_up.ensures.enough is in cc)))
+
+pub returns-in_err-catch_up-clause-enough : goal.returns-in_err-catch_up-clause-enough
+returns-in_err-catch_up-clause-enough c = λ h.
+    let i = c.self.inside in
+    let old = subst (λ (d : LiveDocument). IsWindowKept d c.args.place c.args.above c.args.below) (sym c.self.view_is) h in
+    let there = old.kept old.first (omega arith) old.order in
+    let none = unkept-behind i.behind i.tables.value i.desk.set i.buffer (λ is. (let e = c.in_err-catch_up.ensures.enough is in cc)) old.first in
+    cc
+
+pub returns-in-Err-clause-enough : goal.returns-in-Err-clause-enough
+returns-in-Err-clause-enough c = λ h.
+    let i = c.self.inside in
+    let caught = c.in_ok-catch_up.ensures in
+    let before = c.catch_up.new.buffer in
+    let T = c.deref-2.result.now in
+    let old = subst (λ (tables : TableValues). IsKeptAt tables i.width i.base i.buffer) (sym c.deref.ensures) c.self.invariant.kept_at in
+    let split = (caught.kept i.width i.base old).split ∙ ap₂ (λ (t : TableValues) (ps : List ℕ). paragraph_points t ps) c.deref.ensures caught.text in
+    let seen = live-caught i.behind i.tables.value i.desk.set i.buffer before caught.same caught.nothing split in
+    let all = subst (λ (d : LiveDocument). IsWindowKept d c.args.place c.args.above c.args.below) (sym c.self.view_is) h in
+    let texts = sym (ap (λ ps. paragraphs_in ps) seen) ∙ texts-counted before in
+    let e = c.in-Err.ensures.enough (record {
+      first = all.first;
+      last = all.last;
+      order = all.order;
+      top_in = row-alike i.tables.value T i.width i.base _ (paragraphs_in before) (text i.desk.set) _ all.first (top_of c.args.place c.args.above) all.top_in (sym c.deref-2.ensures) texts (sym caught.text);
+      bottom_in = row-alike i.tables.value T i.width i.base _ (paragraphs_in before) (text i.desk.set) _ all.last (bottom_of c.args.place c.args.below) all.bottom_in (sym c.deref-2.ensures) texts (sym caught.text);
+      kept = λ k from to. sym (ap (λ ms. is_kept ms k) (marks-counted before)) ∙ ap (λ ps. is_kept (marks ps) k) seen ∙ all.kept k from to;
+    }) in
+    cc
