@@ -264,6 +264,7 @@ laid-from mid old new place above below alike h = record {
   stays =
       subst (λ (ps : List (KeptParagraph ℕ)). weight_outside ps h.first h.end + weight_kept (slice_range new.paragraphs h.first h.end) ≤ allowed new.most new.width (length new.window.rows)
       → (k : ℕ) → is_kept (marks ps) k ≡ true → is_kept (marks new.paragraphs) k ≡ true) alike h.stays;
+  no_more = subst (λ (ps : List (KeptParagraph ℕ)). (k : ℕ) → is_kept (marks new.paragraphs) k ≡ true → (is_kept (marks ps) k ≡ true) ⊎ ((h.first ≤ k) × (k < h.end))) alike h.no_more;
   held = h.held;
   texts = h.texts;
   same = h.same ∙ ap paragraphs_in alike;

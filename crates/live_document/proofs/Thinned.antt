@@ -35,6 +35,10 @@ stays-inside s n was is low high e =
     ∙ ap (λ b. is_some (cond ((b && nat_lt n s.to) || over) was None)) (le-leb s.from n low)
     ∙ ap (λ b. is_some (cond (b || over) was None)) (lt-ltb n s.to high)
 
+kept-one : (b : Bool) (was is : Option Rows) → is ≡ cond b was None → is_some is ≡ true → is_some was ≡ true
+kept-one true was is e there = sym (ap (λ (k : Option Rows). is_some k) e) ∙ there
+kept-one false was is e there = let none = ap (λ (k : Option Rows). is_some k) e in cc
+
 -- ---- and all
 
 pub laid-left : (tables : TableValues) (width : ℕ) (base : Base) (s : Spared) (first : ℕ) (old new : KeptText) → paragraphs_in new ≡ paragraphs_in old → kept_in new ≡ left_of s first (kept_in old)
@@ -91,3 +95,10 @@ inside-left s first (p ∷ old) (q ∷ new) f (suc k) low high = inside-left s (
 
 pub inside-all : (s : Spared) (old new : KeptText) → kept_in new ≡ left_of s 0 (kept_in old) → (k : ℕ) → s.from ≤ k → k < s.to → is_kept (flags new) k ≡ is_kept (flags old) k
 inside-all s old new f k low high = inside-left s 0 old new f k (omega arith) (omega arith)
+
+-- nothing more is kept
+pub kept-left : (s : Spared) (first : ℕ) (old new : KeptText) → kept_in new ≡ left_of s first (kept_in old) → (k : ℕ) → is_kept (flags new) k ≡ true → is_kept (flags old) k ≡ true
+kept-left s first old [] f k there = cc
+kept-left s first [] (q ∷ new) f k there = cc
+kept-left s first (p ∷ old) (q ∷ new) f zero there = kept-one (stays s first) p.kept q.kept (ap (λ l. get_or l 0 None) f) there
+kept-left s first (p ∷ old) (q ∷ new) f (suc k) there = kept-left s (first + 1) old new (ap (drop 1) f) k there

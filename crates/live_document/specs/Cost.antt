@@ -67,7 +67,7 @@ IsWindowKept d place above below =
 
 -- a window was laid out: its rows are those of the paragraphs from `first` up to `end`; so many of these were laid out as were
 -- not kept, and all of them are kept now; what was kept of others stays, unless all weigh too much, and then so much of it goes
--- that they do not, or all
+-- that they do not, or all; nothing more is kept of others
 pub record IsLaidOut (old new : LiveDocument) (place above below : ℕ) : Type 0 where
   pub first : ℕ
   pub end : ℕ
@@ -78,6 +78,7 @@ pub record IsLaidOut (old new : LiveDocument) (place above below : ℕ) : Type 0
   pub kept : (k : ℕ) → first ≤ k → k < end → is_kept (marks new.paragraphs) k ≡ true
   pub stays : weight_outside old.paragraphs first end + weight_kept (slice_range new.paragraphs first end) ≤ allowed new.most new.width (length new.window.rows)
       → (k : ℕ) → is_kept (marks old.paragraphs) k ≡ true → is_kept (marks new.paragraphs) k ≡ true
+  pub no_more : (k : ℕ) → is_kept (marks new.paragraphs) k ≡ true → (is_kept (marks old.paragraphs) k ≡ true) ⊎ ((first ≤ k) × (k < end))
   pub held : (weight_kept new.paragraphs ≤ allowed new.most new.width (length new.window.rows)) ⊎ ((k : ℕ) → is_kept (marks new.paragraphs) k ≡ true → (first ≤ k) × (k < end))
   pub texts : paragraphs_in new.paragraphs ≡ paragraph_points new.tables (text new.desk.set)
   pub same : paragraphs_in new.paragraphs ≡ paragraphs_in old.paragraphs

@@ -62,6 +62,7 @@ pub fn forget_others(
     ensures paragraphs { paragraphs_in buffer.new ≡ paragraphs_in buffer.old }
     ensures laid { (tables : TableValues) (width : ℕ) (base : Base) → All (IsLaid tables width base) buffer.old → All (IsLaid tables width base) buffer.new }
     ensures inside { (k : ℕ) → from ≤ k → k < to → is_kept (flags buffer.new) k ≡ is_kept (flags buffer.old) k }
+    ensures no_more { (k : ℕ) → is_kept (flags buffer.new) k ≡ true → is_kept (flags buffer.old) k ≡ true }
     ensures stays { weight_held buffer.old ≤ most → buffer.new ≡ buffer.old }
     ensures held { weight_held buffer.new ≤ result }
     ensures few { result ≤ max most weight }
@@ -90,6 +91,7 @@ fn thin_out(buffer: &mut Buffer<ParagraphRows>, from: usize, to: usize, most: us
     ensures paragraphs { paragraphs_in buffer.new ≡ paragraphs_in buffer.old }
     ensures laid { (tables : TableValues) (width : ℕ) (base : Base) → All (IsLaid tables width base) buffer.old → All (IsLaid tables width base) buffer.new }
     ensures inside { (k : ℕ) → from ≤ k → k < to → is_kept (flags buffer.new) k ≡ is_kept (flags buffer.old) k }
+    ensures no_more { (k : ℕ) → is_kept (flags buffer.new) k ≡ true → is_kept (flags buffer.old) k ≡ true }
     ensures within { weight_held (slice_range buffer.new from to) ≤ weight_held (slice_range buffer.old from to) }
     ensures less { weight_held buffer.new ≤ weight_held buffer.old }
     ensures held { result ≡ weight_held buffer.new }

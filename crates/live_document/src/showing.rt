@@ -132,6 +132,8 @@ pub fn lay_window_out(
     ensures marked { IfOk result (λ outcome. (k : ℕ) → outcome.shown.first ≤ k → k < outcome.end → is_kept (flags buffer.new) k ≡ true) }
     ensures stays { IfOk result (λ outcome. held_outside buffer.old outcome.shown.first outcome.end + weight_held (slice_range buffer.new outcome.shown.first outcome.end)
         ≤ allowed most width outcome.shown.count → (k : ℕ) → is_kept (flags buffer.old) k ≡ true → is_kept (flags buffer.new) k ≡ true) }
+    ensures no_more { IfOk result (λ outcome. (k : ℕ) → is_kept (flags buffer.new) k ≡ true
+        → (is_kept (flags buffer.old) k ≡ true) ⊎ ((outcome.shown.first ≤ k) × (k < outcome.end))) }
     ensures bounded { IfOk result (λ outcome. (weight_held buffer.new ≤ allowed most width outcome.shown.count)
         ⊎ ((k : ℕ) → is_kept (flags buffer.new) k ≡ true → (outcome.shown.first ≤ k) × (k < outcome.end))) }
     ensures held { IfOk result (λ outcome. weight_held buffer.new ≤ outcome.held) }

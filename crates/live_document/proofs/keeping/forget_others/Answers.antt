@@ -1,5 +1,5 @@
 -- What is left are the rows of the stretch.
-use Rattle.std.proofs.Common.{◌≤◌, inr, length, ap, ◌∙◌, arith}
+use Rattle.std.proofs.Common.{◌≤◌, inr, length, sym, ap, ◌∙◌, arith}
 use Rattle.text_buffer.specs.Buffers.{paragraphs_in}
 use Rattle.live_document.proofs.Forgotten.{laid-but, held-but, inside-but, outside-but}
 use Rattle.live_document.proofs.Stretches.{count-texts}
@@ -35,6 +35,15 @@ returns-clause-bounded c =
     let many = ap length c.thin_out-left.ensures.paragraphs in
     let within : c.args.to ≤ length thin = omega (arith, c.requires.within, many, count-texts thin, count-texts c.args.buffer.now) in
     inr (outside-but thin c.forget_but.new.self c.args.from c.args.to c.requires.order within c.forget_but.ensures.paragraphs c.forget_but.ensures.kept)
+
+pub returns-clause-no_more : goal.returns-clause-no_more
+returns-clause-no_more c = λ k there.
+    let thin = c.thin_out-left.new.buffer in
+    let many = ap length c.thin_out-left.ensures.paragraphs in
+    let within : c.args.to ≤ length thin = omega (arith, c.requires.within, many, count-texts thin, count-texts c.args.buffer.now) in
+    let inside = outside-but thin c.forget_but.new.self c.args.from c.args.to c.requires.order within c.forget_but.ensures.paragraphs c.forget_but.ensures.kept k there in
+    let same = inside-but thin c.forget_but.new.self c.args.from c.args.to c.requires.order within c.forget_but.ensures.paragraphs c.forget_but.ensures.kept k inside.0 inside.1 in
+    c.thin_out-left.ensures.no_more k (sym same ∙ there)
 
 pub kept_weight-kept-requires : goal.kept_weight-kept-requires
 kept_weight-kept-requires c = omega (arith, c.requires.held, c.requires.few)

@@ -1,5 +1,5 @@
 -- What is kept is what was, or less.
-use Rattle.std.proofs.Common.{◌≡◌, ℕ, ◌<◌, ◌≤◌, slice_range}
+use Rattle.std.proofs.Common.{◌≡◌, ℕ, true, ◌<◌, ◌≤◌, slice_range}
 use Rattle.std.specs.List.{All}
 use Rattle.bg_types.specs.declared.class.Base.{Base}
 use Rattle.unicode_tables.specs.Tables.{TableValues}
@@ -12,6 +12,7 @@ invariant-loop-step l = record {
   paragraphs : paragraphs_in l.buffer ≡ paragraphs_in l.fn.buffer;
   laid : (tables : TableValues) (width : ℕ) (base : Base) → All (IsLaid tables width base) l.fn.buffer → All (IsLaid tables width base) l.buffer;
   inside : (k : ℕ) → l.fn.from ≤ k → k < l.fn.to → is_kept (flags l.buffer) k ≡ is_kept (flags l.fn.buffer) k;
+  no_more : (k : ℕ) → is_kept (flags l.buffer) k ≡ true → is_kept (flags l.fn.buffer) k ≡ true;
   within : weight_held (slice_range l.buffer l.fn.from l.fn.to) ≤ weight_held (slice_range l.fn.buffer l.fn.from l.fn.to);
   less : weight_held l.buffer ≤ weight_held l.fn.buffer;
 }

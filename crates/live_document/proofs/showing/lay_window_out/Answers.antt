@@ -1,5 +1,6 @@
 -- What was reached has the window.
 use Rattle.std.proofs.Common.{◌≡◌, ◌⊎◌, ◌+◌, ◌*◌, ◌-◌, ◌<◌, ◌≤◌, inl, inr, ℕ, true, [], refl, not, drop, length, get_or, count_by, slice_range, sym, ap, subst, ◌∙◌, arith}
+use Rattle.std.proofs.lemmas.Bool.{cases_lt}
 use Rattle.std.proofs.lemmas.Nat.{mul-le}
 use Rattle.std.proofs.lemmas.Option.{slice_get-get_or}
 use Rattle.std.proofs.lemmas.List.Elements.{All-take, All-drop}
@@ -150,6 +151,13 @@ returns c =
           (sym c.cut_out-shown.ensures.first)
           (kept-stays T w base b0 b3 b4 up.number down.number (allowed c.args.most w shown.count) (omega (arith, ue.order, de.order)) (omega (arith, n0, n3, l3, de.within, e01, e02))
           e03 fe.paragraphs whole fe.inside (λ few. fe.stays (subst (λ (n : ℕ). weight_held b3 ≤ n) (sym most) few)) c.requires.kept.laid de.kept.laid at.laid);
+      no_more = λ k there. elim (cases_lt k up.number) [
+        | inl above ↦ inl (sym (whole.outside k (inl above)) ∙ fe.no_more k there)
+        | inr low ↦ (elim (cases_lt k down.number) [
+          | inl high ↦ inr (omega (arith, low, c.cut_out-shown.ensures.first), high)
+          | inr past ↦ inl (sym (whole.outside k (inr past)) ∙ fe.no_more k there)
+        ])
+      ];
       bounded = subst (λ (n : ℕ). (weight_held b4 ≤ allowed c.args.most w shown.count) ⊎ ((k : ℕ) → is_kept (flags b4) k ≡ true → (n ≤ k) × (k < down.number))) (sym c.cut_out-shown.ensures.first)
           (elim fe.bounded [ inl some ↦ inl (subst (λ (n : ℕ). weight_held b4 ≤ n) most some) | inr none ↦ inr none ]);
       held = fe.held;

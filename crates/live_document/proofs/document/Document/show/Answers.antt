@@ -48,6 +48,10 @@ returns-in-Ok-clause-laid c =
       stays = λ fits k there. ap (λ ms. is_kept ms k) (marks-counted after)
           ∙ e.stays (omega (arith, fits, count, outside, inside)) k (sym (ap (λ ms. is_kept ms k) (marks-counted before)) ∙ ap (λ ps. is_kept (marks ps) k) seen ∙ there);
       kept = λ k from to. ap (λ ms. is_kept ms k) (marks-counted after) ∙ e.marked k from to;
+      no_more = λ k there. elim (e.no_more k (sym (ap (λ ms. is_kept ms k) (marks-counted after)) ∙ there)) [
+        | inl was ↦ inl (sym (ap (λ ps. is_kept (marks ps) k) seen) ∙ ap (λ ms. is_kept ms k) (marks-counted before) ∙ was)
+        | inr within ↦ inr within
+      ];
       held = elim e.bounded [ inl few ↦ inl (omega (arith, few, kept-held after, count)) | inr none ↦ inr (λ k there. none k (sym (ap (λ ms. is_kept ms k) (marks-counted after)) ∙ there)) ];
       texts = texts;
       same = texts ∙ sym (texts-live i.desk i.tables.value i.width i.base i.behind i.buffer i.shown i.held c.self.invariant);
