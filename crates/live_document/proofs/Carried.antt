@@ -3,7 +3,7 @@ use Rattle.std.proofs.Common.{◌≡◌, ◌≤◌, ◌<◌, ℕ, zero, suc, Lis
 use Rattle.std.specs.Prelude.{insert, remove}
 use Rattle.bg_types.specs.declared.change.Change.{Change}
 use Rattle.bg_types.specs.declared.change.Change.TheVariants.{Put, Cut}
-use Rattle.bg_types.specs.Edit.{changed, IsInRange}
+use Rattle.bg_types.specs.Edit.{IsInRange}
 use Rattle.live_document.specs.Carrying.{IsCarried, KeepsItsSide}
 
 drop-put : {X : Type 0} (xs : List X) (k g : ℕ) (x : X) → k ≤ g → g ≤ length xs → drop (suc g) (insert xs k x) ≡ drop g xs

@@ -1,16 +1,16 @@
 -- Paragraphs of which the rows of some are dropped.
-use Rattle.std.proofs.Common.{◌≡◌, ℕ, zero, suc, ◌+◌, ◌<◌, ◌≤◌, Bool, true, false, cond, ◌&&◌, ◌||◌, ◌==◌, ◌%◌, not, None, Some, Option, ◌-◌, List, [], ◌∷◌, get_or, take, drop, slice_range, refl, sym, ap, subst, ◌∙◌, arith}
+use Rattle.std.proofs.Common.{◌≡◌, ℕ, zero, suc, ◌+◌, ◌<◌, ◌≤◌, Bool, true, false, cond, ◌&&◌, ◌||◌, ◌==◌, ◌%◌, not, None, Option, ◌-◌, List, [], ◌∷◌, get_or, take, drop, slice_range, refl, sym, ap, subst, ◌∙◌, arith}
 use Rattle.std.proofs.lemmas.Bool.{le-leb, lt-ltb}
 use Rattle.std.proofs.lemmas.List.Elements.{All-nil, All-cons, All-head, All-tail}
 use Rattle.std.specs.List.{All}
 use Rattle.std.specs.Option.{option_map_or}
-use Rattle.std.specs.Prelude.{is_some, nat_le, nat_lt, IfSome}
+use Rattle.std.specs.Prelude.{is_some, nat_lt, IfSome}
 use Rattle.bg_types.specs.declared.class.Base.{Base}
 use Rattle.unicode_tables.specs.Tables.{TableValues}
 use Rattle.text_buffer.specs.Buffers.{paragraphs_in, kept_in}
 use Rattle.text_buffer.specs.Forgetting.{stays, left_of}
 use Rattle.text_buffer.specs.declared.spared.Spared.{Spared}
-use Rattle.live_document.specs.Keeping.{Rows, KeptText, rows_of_text, rows_weight, rows_beside, weight_held, flags, is_kept, IsLaid}
+use Rattle.live_document.specs.Keeping.{Rows, KeptText, rows_of_text, rows_weight, weight_held, flags, is_kept, IsLaid}
 use Rattle.live_document.proofs.Beside.{held-cons}
 
 -- ---- one paragraph

@@ -1,6 +1,5 @@
 -- What is left are the rows of the stretch.
 use Rattle.std.proofs.Common.{◌≤◌, inr, length, sym, ap, ◌∙◌, arith}
-use Rattle.text_buffer.specs.Buffers.{paragraphs_in}
 use Rattle.live_document.proofs.Forgotten.{laid-but, held-but, inside-but, outside-but}
 use Rattle.live_document.proofs.Stretches.{count-texts}
 use Rattle.live_document.proofs.keeping.forget_others.Goals as goal

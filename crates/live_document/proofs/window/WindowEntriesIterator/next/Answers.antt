@@ -1,5 +1,5 @@
 -- The entry that is next, and those that are left then.
-use Rattle.std.proofs.Common.{◌≡◌, ◌∷◌, List, map, sym, ap, subst, ◌∙◌}
+use Rattle.std.proofs.Common.{◌∷◌, map, sym, ap, subst, ◌∙◌}
 use Rattle.std.proofs.lemmas.List.Elements.{All-head, All-tail}
 use Rattle.std.specs.List.{All}
 use Rattle.cell_grid.specs.declared.entry.Entry.{Entry}
