@@ -137,7 +137,7 @@ IsRefusedExchange desk from to n room told answer =
 -- why a desk replaced nothing by the bytes of a text
 abbrev pub IsRefusedReplacing : Desk → (from to : ℕ) (bytes : List ℕ) (room told answer : ℕ) → Type 0
 IsRefusedReplacing desk from to bytes room told answer =
-    ((answer ≡ 103) × (¬ (IsUtf8 bytes))) ⊎ IsRefusedExchange desk from to (length (chars bytes)) room told answer
+    ((answer ≡ 103) × (¬ (IsUtf8 bytes))) ⊎ (IsUtf8 bytes × IsRefusedExchange desk from to (length (chars bytes)) room told answer)
 
 -- ---- taking and merging
 
