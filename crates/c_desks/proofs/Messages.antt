@@ -18,7 +18,7 @@ use Rattle.desk_replica.specs.Merging.{with_operations}
 use Rattle.desk_replica.specs.declared.answer.TypeFault.{TypeFault}
 use Rattle.desk_replica.specs.declared.answer.TypeFault.TheVariants.{CounterSpent, Full, Memory}
 use Rattle.c_answers.specs.Copying.{IsCopied}
-use Rattle.c_desks.specs.Desks.{replaced_size, HasRoomFor, IsRefusedExchange}
+use Rattle.c_desks.specs.Desks.{replaced_size, HasRoomFor, IsRefusedExchange, IsUnreplaced}
 use Rattle.c_desks.specs.Faults.{type_number}
 
 pub frame_most : (op : OpView) → length (frame op) ≤ 19
@@ -103,8 +103,11 @@ pub replaced_length : (s : OperationSet) (site from to : ℕ) (chs : List ℕ) �
 replaced_length s site from to chs order within = replaced_count s site from (to - from) chs (omega (arith, order, within))
 
 -- why nothing was put in the place of others, by the core's fault
-pub not_exchanged : (desk : Desk) (from to n room told answer : ℕ) (fault : TypeFault) → answer ≡ type_number fault → IsReplaceRefused desk.set (to - from) n fault
+by_fault : (desk : Desk) (from to n room told answer : ℕ) (fault : TypeFault) → answer ≡ type_number fault → IsReplaceRefused desk.set (to - from) n fault
     → ((to - from) + n ≡ 1 → ⊥) → HasRoomFor desk from to n room → IsRefusedExchange desk from to n room told answer
-not_exchanged desk from to n room told answer CounterSpent is spent many has = inr (inr (inr (inl (is, spent))))
-not_exchanged desk from to n room told answer Full is full many has = inr (inr (inr (inr (is, full.1))))
-not_exchanged desk from to n room told answer Memory is memory many has = inl (is, (λ one. absurd (many one)), has)
+by_fault desk from to n room told answer CounterSpent is spent many has = inr (inr (inr (inl (is, spent))))
+by_fault desk from to n room told answer Full is full many has = inr (inr (inr (inr (is, full.1))))
+by_fault desk from to n room told answer Memory is memory many has = inl (is, (λ one. absurd (many one)), has)
+
+pub not_exchanged : (desk : Desk) (from to n room told answer : ℕ) → IsUnreplaced desk (to - from) n answer → ((to - from) + n ≡ 1 → ⊥) → HasRoomFor desk from to n room → IsRefusedExchange desk from to n room told answer
+not_exchanged desk from to n room told answer refused many has = by_fault desk from to n room told answer refused.0 refused.2 refused.1 many has

@@ -15,7 +15,7 @@ use Rattle.op_codec.specs.Spelling.{Spells, SpellsIn, spelling}
 use Rattle.pending_ops.specs.Waiting.{ListsOnce}
 use Rattle.desk_replica.specs.Desk.{Desk, fresh}
 use Rattle.desk_replica.specs.Typing.{typed, insertion, IsTypedAt, IsTypeRefusal, IsTypeRefused}
-use Rattle.desk_replica.specs.Replacement.{deletions, replacement, IsReplaceRefusal}
+use Rattle.desk_replica.specs.Replacement.{deletions, replacement, IsReplaceRefusal, IsReplaceRefused}
 use Rattle.desk_replica.specs.Merging.{with_operations, IsMerge}
 use Rattle.desk_replica.specs.Listed.{listed}
 use Rattle.desk_replica.specs.declared.answer.TakeFault.{TakeFault}
@@ -23,7 +23,7 @@ use Rattle.desk_replica.specs.declared.answer.TypeFault.{TypeFault}
 use Rattle.desk_replica.specs.declared.answer.TypeFault.TheVariants.{CounterSpent, Full, Memory}
 use Rattle.desk_replica.specs.Taking.{AreTaken, IsRefusedNext}
 use Rattle.c_answers.specs.Copying.{IsCopied, IsLeft}
-use Rattle.c_desks.specs.Faults.{take_number, message_number}
+use Rattle.c_desks.specs.Faults.{take_number, type_number, message_number}
 use Rattle.c_desks.specs.declared.numbers.IdentifierNumbers.{IdentifierNumbers}
 use Rattle.c_desks.specs.declared.numbers.Taken.{Taken}
 use Rattle.c_desks.specs.Numbers.{IsSite, no_identifier, none_taken}
@@ -133,6 +133,10 @@ IsRefusedExchange desk from to n room told answer =
     ⊎ (((answer ≡ 102) × (room < replaced_size m n) × (told ≡ replaced_size m n))
     ⊎ (((answer ≡ 203) × IsReplaceRefusal desk.set m n CounterSpent)
     ⊎ ((answer ≡ 202) × (1_000_000 < size desk.set + (m + n))))))
+
+-- why the core put no n characters in the place of m, by its fault's number. Lack of memory comes after the others
+abbrev pub IsUnreplaced : Desk → (m n answer : ℕ) → Type 0
+IsUnreplaced desk m n answer = (fault : TypeFault) × IsReplaceRefused desk.set m n fault × (answer ≡ type_number fault)
 
 -- why a desk replaced nothing by the bytes of a text
 abbrev pub IsRefusedReplacing : Desk → (from to : ℕ) (bytes : List ℕ) (room told answer : ℕ) → Type 0

@@ -1,11 +1,13 @@
 //! Edits of documents: a text is typed, characters are erased or replaced.
 
-ghost use Rattle.std.specs.Prelude.{◌≡◌, ◌<◌, ◌≤◌, ◌+◌, ◌-◌, [], None, length};
+ghost use Rattle.std.specs.Prelude.{◌≡◌, ◌<◌, ◌≤◌, ◌+◌, ◌-◌, ◌*◌, [], None, length, vec_len};
 ghost use Rattle.std.specs.Str.{chars, IsUtf8};
+ghost use Rattle.std.specs.Vec.{vec_capacity};
+ghost use Rattle.op_codec.specs.Spelling.{spelling};
 ghost use Rattle.rga_tree.specs.TextOf.{visible};
 ghost use Rattle.c_desks.specs.declared.keystroke.Keystroke.TheVariants.{Typed};
 ghost use Rattle.c_desks.specs.Keystrokes.{IsKeystroke};
-ghost use Rattle.c_desks.specs.Desks.{HasRoomFor, IsErased, IsReplaced, IsTyped, IsRefusedErasing, IsRefusedExchange, IsRefusedReplacing, IsUnerased, IsUntyped, IsUnwritten};
+ghost use Rattle.c_desks.specs.Desks.{HasRoomFor, IsErased, IsReplaced, IsTyped, IsRefusedErasing, IsRefusedExchange, IsRefusedReplacing, IsUnerased, IsUnreplaced, IsUntyped, IsUnwritten};
 ghost use Rattle.c_documents.specs.Documents.{IsEdited, IsHidden};
 
 use crate::told_document::ToldDocument;
@@ -184,9 +186,30 @@ fn exchange_many_in(
     ensures err { (result ≡ 0 → ⊥) → (held.new ≡ held.old) × (out.new ≡ out.old) × (size.new ≡ size.old) }
     ensures fault { (result ≡ 0 → ⊥) → IsRefusedExchange held.old.document.desk from to (length (chars text.now)) (length out.old) size.new result }
 {
-    let Ok(mut draft) = Draft::of(alloc, to - from + code_points(text)) else {
+    let Ok(draft) = Draft::of(alloc, to - from + code_points(text)) else {
         return MEMORY;
     };
+    exchange_drafted_in(held, from, to, text, draft, out, size)
+}
+
+/// Puts a text in the place of characters. There is room for its message, in the buffer and in a draft of nothing yet.
+fn exchange_drafted_in(
+    held: &mut ToldDocument,
+    from: usize,
+    to: usize,
+    text: &str,
+    mut draft: Draft,
+    out: &mut [u8],
+    size: &mut usize,
+) -> u32
+    requires room { HasRoomFor held.old.document.desk from to (length (chars text.now)) (length out.old) }
+    requires message { draft.message.items ≡ spelling [] }
+    requires bytes { vec_len draft.message + 19 * ((to - from) + length (chars text.now)) ≤ vec_capacity draft.message }
+    requires ops { draft.ops.items ≡ [] }
+    ensures ok { result ≡ 0 → IsReplaced held.old.document.desk from to (chars text.now) held.new.document.desk out.old out.new size.new × IsHidden held.old held.new }
+    ensures err { (result ≡ 0 → ⊥) → (held.new ≡ held.old) × (out.new ≡ out.old) × (size.new ≡ size.old) }
+    ensures fault { (result ≡ 0 → ⊥) → IsUnreplaced held.old.document.desk (to - from) (length (chars text.now)) result }
+{
     match held.document.replace(from, to, text, &mut draft.ops) {
         Ok(()) => {
             draft.write(out, size);
