@@ -30,11 +30,6 @@ numbers-insert bs i b =
     map-append (λ (b : Block). b.number) (take i bs) (b ∷ drop i bs)
     ∙ (λ j. sym (take-map (λ (b : Block). b.number) i bs) j ++ b.number ∷ sym (drop-map (λ (b : Block). b.number) i bs) j)
 
-pub items-set_there : (bs : List Block) (q : ℕ) (new : Block) → q < length bs → get_or (items_of (set bs q new)) q [] ≡ new.elements.items
-items-set_there [] q new there = absurd (omega arith)
-items-set_there (b ∷ bs) zero new there = refl
-items-set_there (b ∷ bs) (suc q) new there = items-set_there bs q new (omega arith)
-
 pub number_there : (bs : List Block) (p : ℕ) (d : Block) → p < length bs → get_or (numbers_of bs) p 0 ≡ (get_or bs p d).number
 number_there [] p d there = absurd (omega arith)
 number_there (x ∷ bs) zero d there = refl

@@ -87,11 +87,6 @@ set_joined (x ∷ xs) (suc p) j v there within =
     let e : length (x ++ joined (take p xs)) + j ≡ length x + offset xs p j = omega (arith, length-append x (joined (take p xs))) in
     rw e (ap (λ r. x ++ r) (set_joined xs p j v (omega arith) within) ∙ sym (set-past x (joined xs) (offset xs p j) v))
 
-pub there_set : (xs : List (List Element)) (p : ℕ) (y : List Element) → p < length xs → get_or (set xs p y) p [] ≡ y
-there_set [] p y there = absurd (omega arith)
-there_set (x ∷ xs) zero y there = refl
-there_set (x ∷ xs) (suc p) y there = there_set xs p y (omega arith)
-
 pub seen-append : (x y : List Element) → seen (x ++ y) ≡ seen x + seen y
 seen-append [] y = sym (zero-add (seen y))
 seen-append (e ∷ x) y =

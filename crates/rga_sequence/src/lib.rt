@@ -9,7 +9,6 @@ mod counted;
 mod index;
 pub mod laws;
 mod look;
-mod order;
 mod row;
 mod skip;
 mod sums;

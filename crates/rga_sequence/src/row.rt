@@ -7,13 +7,12 @@ ghost use Rattle.rga_tree.specs.declared.element.Element.{Element};
 ghost use Rattle.rga_tree.specs.Row.{start_of, place_of, ids_of, is_distinct};
 ghost use Rattle.rga_tree.specs.KeepsWalk.{KeepsWalk};
 ghost use Rattle.rga_sequence.specs.Blocks.{seen, joined, offset, sought};
-ghost use Rattle.rga_sequence.specs.BlockRows.{has, items_of};
+ghost use Rattle.rga_sequence.specs.BlockRows.{has, items_of, numbers_of};
 ghost use Rattle.rga_sequence.specs.Indexed.{blocks_in, elements_in, IsIndexed, HasRoom};
 
 use crate::block::{Block, FULL, HALF, Spare, weight};
 use crate::bounds::{self, NEIGHBOURS};
 use crate::index::{self, Index, home, home_and_hint, rehome, renumber};
-use crate::order::{count_in, hide_at, put_at, split_at};
 use crate::skip::place_from;
 use crate::sums;
 use bg_types::{Id, Memory, Place};
@@ -295,7 +294,7 @@ fn make_room(row: &mut Row, q: usize, at: usize) -> (usize, usize)
     ensures indexed { IsIndexed ⟦<Id as Eq>⟧.eq row.new }
     ensures room { (n : ℕ) → HasRoom row.old n → HasRoom row.new n }
 {
-    if count_in(&row.blocks, q) < FULL {
+    if row.blocks[q].elements.len() < FULL {
         return (q, at);
     }
     split(row, q);
@@ -319,9 +318,9 @@ fn split(row: &mut Row, q: usize)
     ensures indexed { IsIndexed ⟦<Id as Eq>⟧.eq row.new }
     ensures room { (n : ℕ) → HasRoom row.old n → HasRoom row.new n }
 {
-    let upper = row.spares.pop().unwrap().row;
+    let lower = row.spares.pop().unwrap().row;
     let number = row.blocks.len();
-    split_at(&mut row.blocks, q, upper, number);
+    split_at(&mut row.blocks, q, lower, number);
     rehome(&mut row.index, &row.blocks[q + 1].elements, number);
     row.places.push(number).unwrap();
     renumber(&mut row.places, &row.blocks, q + 1);
@@ -329,6 +328,23 @@ fn split(row: &mut Row, q: usize)
     bounds::add(&mut row.bounds, row.blocks.len(), row.blocks[q].least);
     bounds::renew(&mut row.bounds, &row.blocks, from);
     sums::renew(&mut row.sums, &row.blocks, q);
+}
+
+/// Splits block q, which is full: its upper half moves to a new block after it.
+fn split_at(blocks: &mut Vec<Block>, q: usize, lower: Vec<Element>, number: usize)
+    requires block { q < vec_len blocks.old }
+    requires full { length (get_or (items_of blocks.old.items) q []) ≡ 512 }
+    requires room { vec_len blocks.old < vec_capacity blocks.old }
+    requires empty { lower.items ≡ [] }
+    requires lower_room { 512 ≤ vec_capacity lower }
+    ensures items { let x = get_or (items_of blocks.old.items) q [] in
+        items_of blocks.new.items ≡ insert (slice_set (items_of blocks.old.items) q (take 256 x)) (q + 1) (drop 256 x) }
+    ensures numbers { numbers_of blocks.new.items ≡ insert (numbers_of blocks.old.items) (q + 1) number }
+    ensures len { vec_len blocks.new ≡ vec_len blocks.old + 1 }
+    ensures capacity { vec_capacity blocks.old ≤ vec_capacity blocks.new }
+{
+    let upper = blocks[q].split(lower, number);
+    blocks.insert(q + 1, upper).unwrap();
 }
 
 /// Puts a new element into a block that has room.
@@ -344,7 +360,7 @@ fn put_into(row: &mut Row, q: usize, at: usize, id: Id, parent: Place, ch: char,
     ensures indexed { IsIndexed ⟦<Id as Eq>⟧.eq row.new }
     ensures room { (n : ℕ) → HasRoom row.old (n + 1) → HasRoom row.new n }
 {
-    put_at(&mut row.blocks, q, at, id, parent, ch, hidden);
+    row.blocks[q].insert(at, id, parent, ch, hidden);
     bounds::lower(&mut row.bounds, q, id);
     sums::raise(&mut row.sums, q, weight(hidden));
     let number = row.blocks[q].number;
@@ -365,7 +381,7 @@ pub fn hide(row: &mut Row, id: Id) -> usize
     ensures room { (n : ℕ) → HasRoom row.old n → HasRoom row.new n }
 {
     let (p, j) = spot(row, id).unwrap();
-    let gone = hide_at(&mut row.blocks, p, j);
+    let gone = row.blocks[p].hide(j);
     sums::lower(&mut row.sums, p, gone);
     gone
 }

@@ -36,8 +36,8 @@ upper_half xs q new b there items at =
     let longer : q + 1 < length new = omega (arith, length-items new, ap length items, split_long xs q low high there, there) in
     ap (λ (d : Block). d.elements.items) at ∙ sym (items_there new (q + 1) b longer) ∙ ap (λ r. get_or r (q + 1) []) items ∙ split_high xs q low high there
 
-pub unwrap-upper-requires : goal.unwrap-upper-requires
-unwrap-upper-requires c =
+pub unwrap-lower-requires : goal.unwrap-lower-requires
+unwrap-lower-requires c =
     let xs = blocks_in c.args.row.now in
     let paid = full_paid xs c.args.q c.requires.indexed.halves (block_there c.args.row.now c.args.q c.requires.block) c.requires.full in
     c.pop.ensures.variant.1 (omega (arith, paid, c.requires.room.paid, length-items c.args.row.now.blocks.items, c.args.row.now.blocks.ok))
@@ -56,7 +56,7 @@ rehome-requires-clause-known c =
 
 pub rehome-requires-clause-few : goal.rehome-requires-clause-few
 rehome-requires-clause-few c =
-    let fewer : vec_len c.pop.new.self + 1 ≡ vec_len c.args.row.now.spares = omega (arith, c.pop.ensures.len, ap (λ o. length (option_to_list o)) c.unwrap-upper.ensures) in
+    let fewer : vec_len c.pop.new.self + 1 ≡ vec_len c.args.row.now.spares = omega (arith, c.pop.ensures.len, ap (λ o. length (option_to_list o)) c.unwrap-lower.ensures) in
     omega (arith, c.len-number.ensures, fewer, c.requires.room.few)
 
 pub renumber-requires : goal.renumber-requires
@@ -113,7 +113,7 @@ returns c =
     let left = drop (length c.renew.new.bounds) c.add.new.bounds.items in
     let renewed : take c.add.new.bounds.len (c.renew.new.bounds ++ left) ≡ c.renew.new.bounds = take_at c.renew.new.bounds left c.add.new.bounds.len (omega (arith, c.renew.auto.bounds, c.deref_mut-2.ensures.len)) in
     let same = ap length (ap joined c.split_at.ensures.items ∙ split_joined xs q low high there halved) in
-    let fewer : vec_len c.pop.new.self + 1 ≡ vec_len c.args.row.now.spares = omega (arith, c.pop.ensures.len, ap (λ o. length (option_to_list o)) c.unwrap-upper.ensures) in
+    let fewer : vec_len c.pop.new.self + 1 ≡ vec_len c.args.row.now.spares = omega (arith, c.pop.ensures.len, ap (λ o. length (option_to_list o)) c.unwrap-lower.ensures) in
     record {
       blocks = items;
       indexed = record {
