@@ -8,7 +8,8 @@ ghost use Rattle.rga_sequence.specs.Sums.{AreSums};
 use crate::block::{Block, count_visible};
 use crate::bounds::NEIGHBOURS;
 
-/// How many visible elements stand before element `at` of block b.
+/// How many visible elements stand before element `at` of block b: what the sums say of the blocks before its neighbours, the
+/// headers of those before it, and those before it there.
 pub fn count_before(blocks: &[Block], sums: &[usize], b: usize, at: usize) -> usize
     requires block { b < length blocks.now }
     requires within { at ≤ length (get_or (items_of blocks.now) b []) }
@@ -16,19 +17,9 @@ pub fn count_before(blocks: &[Block], sums: &[usize], b: usize, at: usize) -> us
     requires few { seen_all (items_of blocks.now) < 2 ^ 64 }
     ensures { result ≡ seen_all (take b (items_of blocks.now)) + seen (take at (get_or (items_of blocks.now) b [])) }
 {
-    before_block(blocks, sums, b) + in_front(&blocks[b], at)
-}
-
-/// How many visible elements stand before block b: what the sums say of the blocks before its neighbours, and the headers
-/// of those before it.
-fn before_block(blocks: &[Block], sums: &[usize], b: usize) -> usize
-    requires block { b ≤ length blocks.now }
-    requires sums { AreSums sums.now (items_of blocks.now) }
-    requires few { seen_all (items_of blocks.now) < 2 ^ 64 }
-    ensures { result ≡ seen_all (take b (items_of blocks.now)) }
-{
     let g = sums.len().min(b / NEIGHBOURS);
-    total(&sums[..g]) + visible_in(&blocks[NEIGHBOURS * g..b])
+    let before = total(&sums[..g]) + visible_in(&blocks[NEIGHBOURS * g..b]);
+    before + in_front(&blocks[b], at)
 }
 
 /// The sums together.
