@@ -60,20 +60,8 @@ pub fn reserve(index: &mut Index, n: usize) -> Result<(), Memory>
     Ok(())
 }
 
-/// The number of the block of an identifier.
-pub fn home(index: &Index, id: Id) -> Option<usize>
-    requires { IsGrouped ⟦<Id as Eq>⟧.eq index.now }
-    ensures { result ≡ home_in ⟦<Id as Eq>⟧.eq index.now id }
-{
-    let place = find(index, group(id))?;
-    match index.numbers[slot(place, id)] {
-        0 => None,
-        number => Some(number as usize - 1),
-    }
-}
-
 /// The number of the block of an identifier, and from where on it may stand there.
-pub fn home_and_hint(index: &Index, id: Id) -> Option<(usize, usize)>
+pub fn home(index: &Index, id: Id) -> Option<(usize, usize)>
     requires { IsGrouped ⟦<Id as Eq>⟧.eq index.now }
     ensures { option_map (λ found. found.0) result ≡ home_in ⟦<Id as Eq>⟧.eq index.now id }
 {

@@ -12,7 +12,7 @@ ghost use Rattle.rga_sequence.specs.Indexed.{blocks_in, elements_in, IsIndexed, 
 
 use crate::block::{Block, FULL, HALF, Spare, weight};
 use crate::bounds::{self, NEIGHBOURS};
-use crate::index::{self, Index, home, home_and_hint, rehome, renumber};
+use crate::index::{self, Index, home, rehome, renumber};
 use crate::skip::place_from;
 use crate::sums;
 use bg_types::{Id, Memory, Place};
@@ -79,7 +79,7 @@ fn indexed_spot(row: &Row, id: Id) -> Option<(usize, usize)>
     ensures place { IfSome result (λ s. offset (blocks_in row.now) s.0 s.1
         ≡ prefix_len (λ e. not (same_id id e.id)) (elements_in row.now)) }
 {
-    match home_and_hint(&row.index, id) {
+    match home(&row.index, id) {
         None => None,
         Some((number, hint)) => {
             let p = row.places[number];
