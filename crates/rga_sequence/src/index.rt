@@ -67,17 +67,10 @@ pub fn home(index: &Index, id: Id) -> Option<(usize, usize)>
 {
     let place = find(index, group(id))?;
     let slot = slot(place, id);
+    let hint = index.hints.get(slot).copied().unwrap_or(0);
     match index.numbers[slot] {
         0 => None,
-        number => Some((number as usize - 1, hint(&index.hints, slot))),
-    }
-}
-
-/// Where the identifier of a slot may stand in its block.
-fn hint(hints: &[u16], slot: usize) -> usize {
-    match hints.get(slot) {
-        Some(at) => usize::from(*at),
-        None => 0,
+        number => Some((number as usize - 1, usize::from(hint))),
     }
 }
 
