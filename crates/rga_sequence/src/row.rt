@@ -123,17 +123,12 @@ fn before(row: &[Element], hint: usize, id: Id) -> usize
     requires { is_distinct (ids_of row.now) ≡ true }
     ensures { result ≡ prefix_len (λ e. not (same_id id e.id)) row.now }
 {
-    let likely = sought_from(row, hint, id);
+    let from = past_eights(row, hint.min(row.len()), id);
+    let likely = from + row[from..].iter().take_while(|e| id != e.id).count();
     if likely < row.len() && id == row[likely].id {
         return likely;
     }
     row.iter().take_while(|e| id != e.id).count()
-}
-
-/// Where the first element from the hint on stands that has this identifier, or the end.
-fn sought_from(row: &[Element], hint: usize, id: Id) -> usize {
-    let from = past_eights(row, hint.min(row.len()), id);
-    from + row[from..].iter().take_while(|e| id != e.id).count()
 }
 
 /// As far from one place on as eight elements at a time lack this identifier.
@@ -142,16 +137,10 @@ fn past_eights(row: &[Element], from: usize, id: Id) -> usize
     ensures { result ≤ length row.now }
 {
     let mut at = from;
-    while row.len() - at >= COMPARED && !is_among(&row[at..at + COMPARED], id) {
+    while row.len() - at >= COMPARED && !row[at..at + COMPARED].iter().any(|e| id == e.id) {
         at += COMPARED;
     }
     at
-}
-
-/// Whether an element has this identifier.
-#[inline(always)]
-fn is_among(row: &[Element], id: Id) -> bool {
-    row.iter().any(|e| id == e.id)
 }
 
 /// Puts in a new element: after its parent, and after all greater ones that directly follow it.
