@@ -9,17 +9,6 @@ use crate::block::Block;
 use crate::bounds::NEIGHBOURS;
 use rga_tree::Element;
 
-/// How many elements of a block are visible. This is one look.
-#[inline(always)]
-pub fn header(block: &Block, looks: &mut u64) -> usize
-    requires room { looks.old + 1 < 2 ^ 64 }
-    ensures visible { result ≡ seen block.now.elements.items }
-    ensures looks { looks.new ≡ looks.old + 1 }
-{
-    *looks += 1;
-    block.visible
-}
-
 /// Passes neighbours that have a sum, from the front, as long as k isn't among them: how many blocks these are, and how many of
 /// the k elements before k are left. That is as many looks as they have headers.
 pub fn pass(blocks: &[Block], sums: &[usize], k: usize, looks: &mut u64) -> (usize, usize)
@@ -69,19 +58,9 @@ fn hidden_in(row: &[Element], looks: &mut u64) -> u8
     let mut hidden = 0;
     let mut read = 0;
     for e in row {
-        hidden += u8::from(is_hidden(e, &mut read));
+        read += 1;
+        hidden += u8::from(e.hidden);
     }
     *looks += read;
     hidden
-}
-
-/// Whether an element is hidden. This is one look.
-#[inline(always)]
-fn is_hidden(element: &Element, looks: &mut u64) -> bool
-    requires room { looks.old + 1 < 2 ^ 64 }
-    ensures hidden { result ≡ element.now.hidden }
-    ensures looks { looks.new ≡ looks.old + 1 }
-{
-    *looks += 1;
-    element.hidden
 }
