@@ -1,17 +1,13 @@
--- The walk and the text of a set are those of its attached part.
-use Rattle.std.proofs.Common.{◌≡◌, Bool, true, cond, not, List, [], ◌∷◌, Option, Some, None, refl, ap, ◌∙◌}
-use Rattle.std.specs.Prelude.{◌↔◌, map as each, filter, is_some}
-use Rattle.std.specs.List.{AllByRecursion}
+-- The walk of a set is that of its attached part.
+use Rattle.std.proofs.Common.{◌≡◌, true, Option, Some, None, refl, ◌∙◌}
+use Rattle.std.specs.Prelude.{◌↔◌, is_some}
 use Rattle.std.specs.FinMap as map
-use Rattle.std.specs.FinSet as set
 use Rattle.bg_types.specs.Identifier.{Identifier}
 use Rattle.bg_types.specs.OperationSet.{Node, OperationSet, AllWellFormed}
 use Rattle.bg_types.specs.declared.op.Place.TheVariants.{Root, After}
 use Rattle.rga_tree.specs.Walk.{walk}
-use Rattle.rga_tree.specs.TextOf.{text}
 use Rattle.rga_tree.specs.Attached.{IsAttached, IsAttachedPart}
 use Rattle.rga_tree.specs.Attached.IsAttached.{below_root, below}
-use Rattle.rga_tree.proofs.WalkAmong.{Entry}
 use Rattle.rga_tree.proofs.AttachedWalk.{all_weaker_by, all_attached}
 use Rattle.rga_tree.proofs.SubWalk.{has, is_had, filter_all, walk-kept}
 
@@ -32,14 +28,3 @@ walk-part s t well part =
     walk-kept t s (λ q node held. ((part q node).0 held).0) (has t) (has-part s t part) well
     ∙ filter_all (λ e. has t e.0) (walk s Root)
     (all_weaker_by (λ e. IsAttached s.ins e.0) (λ e. has t e.0 ≡ true) (walk s Root) (λ e at. is_had t.ins (IsAttached-part s t part at)) (all_attached s (map.len s.ins) Root tt))
-
-same_filter : (p q : Entry → Bool) (es : List Entry) → AllByRecursion (λ e. p e ≡ q e) es → filter p es ≡ filter q es
-same_filter p q [] h = refl
-same_filter p q (e ∷ es) h = λ i. cond (h.0 i) (e ∷ same_filter p q es h.1 i) (same_filter p q es h.1 i)
-
-pub text-part : (s t : OperationSet) → AllWellFormed s → IsAttachedPart s t → ((id : Identifier) → IsAttached s.ins id → set.contains t.del id ≡ set.contains s.del id) → text t ≡ text s
-text-part s t well part marks =
-    ap (λ w. each (λ (e : Entry). e.1.ch) (filter (λ e. not (set.contains t.del e.0)) w)) (walk-part s t well part)
-    ∙ ap (each (λ (e : Entry). e.1.ch)) (same_filter (λ e. not (set.contains t.del e.0)) (λ e. not (set.contains s.del e.0)) (walk s Root)
-    (all_weaker_by (λ e. IsAttached s.ins e.0) (λ e. not (set.contains t.del e.0) ≡ not (set.contains s.del e.0)) (walk s Root)
-    (λ e at. ap not (marks e.0 at)) (all_attached s (map.len s.ins) Root tt)))

@@ -17,10 +17,9 @@ pub use Rattle.rga_tree.proofs.TreeAttached.{IsAttached-more, IsAttached-tree}
 pub use Rattle.rga_tree.proofs.AttachedPart.{walk-part}
 pub use Rattle.rga_tree.proofs.LeafWalk.{walk-leaf_attached, walk-leaf_at}
 pub use Rattle.rga_tree.proofs.SubWalk.{walk-sub_walk, is_attached-test, inserted_part, AllWellFormed-part}
-pub use Rattle.rga_tree.proofs.Lines.{either_way, never_both_ways, in_turn, StandsBefore-filtered, StandsBefore-unfiltered}
-pub use Rattle.rga_tree.proofs.OneOrder.{filter_ids, walked_ids-sub_walk, Precedes-attached, Precedes-either, Precedes-never_both, Precedes-in_turn, Precedes-more, Precedes-part, Precedes-agree, StandsBetween-agree, walk-same, text-same_operations}
-pub use Rattle.rga_tree.proofs.Below.{reads_attached, below_listed, listed_below, stretch_of}
-pub use Rattle.rga_tree.proofs.Runs.{runs_apart, runs_at_one_place, IsRun-more}
+pub use Rattle.rga_tree.proofs.Lines.{StandsBefore-unfiltered}
+pub use Rattle.rga_tree.proofs.OneOrder.{filter_ids, Precedes-attached, Precedes-part, Precedes-agree, text-same_operations}
+pub use Rattle.rga_tree.proofs.Runs.{runs_at_one_place}
 pub use Rattle.rga_tree.proofs.TypedPlace.{walk-typed_behind, walk-typed_first, StandsBetween-typed}
 pub use Rattle.rga_tree.proofs.RunSteps.{later-more, later-none, later-apart, later-less, drawn, stands_behind, new_behind, IsUnderWay, begun, parent_behind, one_further, some_under_way, next_new, nothing_left}
 pub use Rattle.rga_tree.proofs.RunRows.{take-insert, drop-insert, run_of, put_in, put_in-cons, start_behind, formed_run, placing_run}

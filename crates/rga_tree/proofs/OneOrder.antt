@@ -1,14 +1,12 @@
 -- The order of two identifiers is the same in all sets that agree.
 use Rattle.std.proofs.Common.{◌≡◌, ◌⊎◌, inl, inr, Bool, true, false, cond, List, [], ◌∷◌, ◌++◌, refl, sym, ap, subst, ◌∙◌}
 use Rattle.std.specs.Prelude.{◌↔◌, map as each, filter}
-use Rattle.std.specs.FinMap as map
 use Rattle.bg_types.specs.Identifier.{Identifier}
 use Rattle.bg_types.specs.OperationSet.{OperationSet, Holds, Agree, AllWellFormed, union}
 use Rattle.bg_types.specs.declared.op.OpView.{OpView}
-use Rattle.bg_types.specs.declared.op.Place.{Place}
 use Rattle.bg_types.specs.declared.op.Place.TheVariants.{Root}
-use Rattle.bg_types.proofs.Interface.{id_cmp-total, id_cmp-exact, Holds-union, same_operations}
-use Rattle.rga_tree.specs.Walk.{walk_to, walk, walked_ids}
+use Rattle.bg_types.proofs.Interface.{Holds-union, same_operations}
+use Rattle.rga_tree.specs.Walk.{walk, walked_ids}
 use Rattle.rga_tree.specs.TextOf.{text}
 use Rattle.rga_tree.specs.Attached.{IsAttached, is_attached}
 use Rattle.rga_tree.specs.Parts.{IsPartOf}
@@ -80,9 +78,6 @@ StandsBetween-agree s t well_s well_t agree a x b h t_a t_x t_b =
     (agree_one_way s t well_s well_t agree a x t_a t_x h.0, agree_one_way s t well_s well_t agree x b t_x t_b h.1)
 
 -- ---- equal sets
-
-pub walk-same : (s t : OperationSet) → ((id : Identifier) → map.get s.ins id ≡ map.get t.ins id) → (p : Place) → walk s p ≡ walk t p
-walk-same s t same p = ap (λ ins. walk_to (map.len ins) ins p) (map.same_map id_cmp-total id_cmp-exact s.ins t.ins same)
 
 pub text-same_operations : (s t : OperationSet) → IsPartOf s t → IsPartOf t s → text s ≡ text t
 text-same_operations s t there back = ap text (same_operations s t (λ op. (there op, back op)))

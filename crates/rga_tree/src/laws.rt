@@ -1,19 +1,18 @@
 //! Laws of the definitions: each function's contract is the law, and its body is empty.
 
-ghost use Rattle.std.specs.Prelude.{◌≡◌, ◌≢◌, ◌≤◌, ◌↔◌, ◌⊎◌, [], ◌∷◌, ◌++◌, List, Some, true, Contains, filter, insert, false, codes};
+ghost use Rattle.std.specs.Prelude.{◌≡◌, ◌≢◌, ◌↔◌, ◌⊎◌, [], ◌∷◌, ◌++◌, List, Some, true, Contains, filter, insert, false, codes};
 ghost use Rattle.std.specs.declared.cmp.Ordering.TheVariants.{Less};
 ghost use Rattle.std.specs.List.{flat_map, IsDistinct};
 ghost use Rattle.std.specs.FinMap as map;
-ghost use Rattle.std.specs.FinSet as set;
 ghost use Rattle.bg_types.specs.Identifier.{Identifier, id_cmp, same_id};
-ghost use Rattle.bg_types.specs.OperationSet.{Node, OperationSet, Agree, AllWellFormed, with_operation, next};
+ghost use Rattle.bg_types.specs.OperationSet.{Node, OperationSet, Agree, AllWellFormed, with_operation};
 ghost use Rattle.bg_types.specs.WellFormed.{IsWellFormed};
 ghost use Rattle.bg_types.specs.declared.op.OpView.{OpView};
 ghost use Rattle.bg_types.specs.declared.op.OpView.TheVariants.{Insert};
 ghost use Rattle.bg_types.specs.declared.op.Place.{Place};
 ghost use Rattle.bg_types.specs.declared.op.Place.TheVariants.{Root, After};
 ghost use Rattle.rga_tree.specs.Walk.{walk, children, walked_ids, IsListedParent};
-ghost use Rattle.rga_tree.specs.Attached.{IsAttached, IsAttachedPart, is_attached};
+ghost use Rattle.rga_tree.specs.Attached.{IsAttached, is_attached};
 ghost use Rattle.rga_tree.specs.Parts.{IsPartOf};
 ghost use Rattle.rga_tree.specs.Order.{Precedes, StandsBetween};
 ghost use Rattle.rga_tree.specs.Stretch.{IsChild, StandsBelow, IsUnbroken, IsRun, IsLeftOf};
@@ -39,26 +38,11 @@ pub fn attached_once()
         → Contains (walk s Root) e → map.get s.ins e.0 ≡ Some e.1 }
 {}
 
-/// Where each parent is in the set, every insertion is attached.
-pub fn tree_attached()
-    ensures { (s : OperationSet) → AllWellFormed s → IsTree s → (id : Identifier)
-        → map.contains_key s.ins id ≡ true → IsAttached s.ins id }
-{}
-
 /// A parent stands before its children.
 pub fn parents_first()
     ensures { (s : OperationSet) → AllWellFormed s
         → (before after : List (Identifier × Node)) (e : Identifier × Node)
         → walk s Root ≡ before ++ e ∷ after → IsListedParent e.1.parent before }
-{}
-
-/// The walk from the root and the text depend only on what is attached.
-pub fn attached_alone()
-    ensures walk { (s t : OperationSet) → AllWellFormed s → IsAttachedPart s t
-        → walk t Root ≡ walk s Root }
-    ensures text { (s t : OperationSet) → AllWellFormed s → IsAttachedPart s t
-        → ((id : Identifier) → IsAttached s.ins id → set.contains t.del id ≡ set.contains s.del id)
-        → text t ≡ text s }
 {}
 
 /// The walk of a tree with one more insertion is the old walk with it put in: after its parent,
@@ -126,31 +110,6 @@ pub fn unbroken_stretch()
         → id_cmp b a ≡ Less → IsLeftOf s (a ∷ xs) (b ∷ ys) }
     ensures stays { (s t : OperationSet) → IsPartOf s t → (ids : List Identifier)
         → IsRun s.ins ids → IsRun t.ins ids }
-{}
-
-/// An insertion whose counter is above all that a set names, as that of a typed character is, is read
-/// directly after its parent, or first of all if the parent is the root. So it stands between its
-/// parent and each character that stood after the parent.
-pub fn typed_place()
-    ensures behind { (s : OperationSet) → AllWellFormed s → (id : Identifier) (node : Node)
-        → IsWellFormed (Insert id node.parent node.ch) → next s ≤ id.counter
-        → (front back : List (Identifier × Node)) (parent : Identifier × Node)
-        → node.parent ≡ After parent.0 → walk s Root ≡ front ++ parent ∷ back
-        → walk (with_operation s (Insert id node.parent node.ch)) Root ≡ front ++ parent ∷ (id, node) ∷ back }
-    ensures first { (s : OperationSet) → AllWellFormed s → (id : Identifier) (node : Node)
-        → IsWellFormed (Insert id node.parent node.ch) → next s ≤ id.counter → node.parent ≡ Root
-        → walk (with_operation s (Insert id node.parent node.ch)) Root ≡ (id, node) ∷ walk s Root }
-    ensures between { (s : OperationSet) → AllWellFormed s → (id : Identifier) (node : Node)
-        → IsWellFormed (Insert id node.parent node.ch) → next s ≤ id.counter
-        → (a b : Identifier) → node.parent ≡ After a → Precedes s a b
-        → StandsBetween (with_operation s (Insert id node.parent node.ch)) a id b }
-{}
-
-/// Sets with equal insertions have one walk, and sets with the same operations read as one text.
-pub fn same_sets()
-    ensures walk { (s t : OperationSet)
-        → ((id : Identifier) → map.get s.ins id ≡ map.get t.ins id) → (p : Place) → walk s p ≡ walk t p }
-    ensures text { (s t : OperationSet) → IsPartOf s t → IsPartOf t s → text s ≡ text t }
 {}
 
 /// What small sets of operations read as, in whatever order they are taken.
