@@ -66,8 +66,3 @@ walk_to-among s depth q enough founded =
 
 pub walk-among : (s : OperationSet) (q : Place) → AllWellFormed s → walk s q ≡ walk_among (entries_of s) q
 walk-among s q well = walk_to-among s (map.len s.ins) q (omega arith) (AreWellFounded-entries s well)
-
--- the walk of a set whose insertions are known
-pub walk-entries : (s : OperationSet) (es : List Entry) (q : Place) → entries_of s ≡ es → walk s q ≡ walk_deep (length es) es q
-walk-entries s es q is =
-    walk_to-entries (map.len s.ins) s.ins q ∙ ap (λ n. walk_deep n (entries_of s) q) (map.len-entries s.ins) ∙ ap (λ l. walk_deep (length l) l q) is

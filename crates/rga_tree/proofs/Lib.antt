@@ -29,7 +29,4 @@ pub mod Siblings
 pub mod RunRows
 pub mod TypedPlace
 pub mod LeafWalk
-pub mod Taken
-pub mod Examples
-pub mod OrderExamples
 pub mod Interface

@@ -1,13 +1,12 @@
 //! Laws of the definitions: each function's contract is the law, and its body is empty.
 
-ghost use Rattle.std.specs.Prelude.{◌≡◌, ◌≢◌, ◌↔◌, ◌⊎◌, [], ◌∷◌, ◌++◌, List, Some, true, Contains, filter, insert, false, codes};
+ghost use Rattle.std.specs.Prelude.{◌≡◌, ◌≢◌, ◌↔◌, ◌⊎◌, ◌∷◌, ◌++◌, List, Some, true, Contains, filter, insert, false};
 ghost use Rattle.std.specs.declared.cmp.Ordering.TheVariants.{Less};
 ghost use Rattle.std.specs.List.{flat_map, IsDistinct};
 ghost use Rattle.std.specs.FinMap as map;
 ghost use Rattle.bg_types.specs.Identifier.{Identifier, id_cmp, same_id};
 ghost use Rattle.bg_types.specs.OperationSet.{Node, OperationSet, Agree, AllWellFormed, with_operation};
 ghost use Rattle.bg_types.specs.WellFormed.{IsWellFormed};
-ghost use Rattle.bg_types.specs.declared.op.OpView.{OpView};
 ghost use Rattle.bg_types.specs.declared.op.OpView.TheVariants.{Insert};
 ghost use Rattle.bg_types.specs.declared.op.Place.{Place};
 ghost use Rattle.bg_types.specs.declared.op.Place.TheVariants.{Root, After};
@@ -16,11 +15,9 @@ ghost use Rattle.rga_tree.specs.Attached.{IsAttached, is_attached};
 ghost use Rattle.rga_tree.specs.Parts.{IsPartOf};
 ghost use Rattle.rga_tree.specs.Order.{Precedes, StandsBetween};
 ghost use Rattle.rga_tree.specs.Stretch.{IsChild, StandsBelow, IsUnbroken, IsRun, IsLeftOf};
-ghost use Rattle.rga_tree.specs.TextOf.{text};
 ghost use Rattle.rga_tree.specs.Tree.{stands_in, IsTree};
 ghost use Rattle.rga_tree.specs.Elements.{elements};
 ghost use Rattle.rga_tree.specs.Row.{place_of};
-ghost use Rattle.rga_tree.specs.Examples.{set_of, HaveSameOperations, stamp, two_in_line, two_at_root, four_in_tree, one_erased, two_runs, one_waits};
 
 /// The walk from a parent is, for each child in falling order, the child and then the walk from it.
 pub fn preorder()
@@ -110,33 +107,4 @@ pub fn unbroken_stretch()
         → id_cmp b a ≡ Less → IsLeftOf s (a ∷ xs) (b ∷ ys) }
     ensures stays { (s t : OperationSet) → IsPartOf s t → (ids : List Identifier)
         → IsRun s.ins ids → IsRun t.ins ids }
-{}
-
-/// What small sets of operations read as, in whatever order they are taken.
-pub fn examples()
-    ensures in_line { (ops : List OpView) → HaveSameOperations ops two_in_line
-        → text (set_of ops) ≡ codes "ab" }
-    ensures at_root { (ops : List OpView) → HaveSameOperations ops two_at_root
-        → text (set_of ops) ≡ codes "ba" }
-    ensures in_tree { (ops : List OpView) → HaveSameOperations ops four_in_tree
-        → text (set_of ops) ≡ codes "axyb" }
-    ensures erased { (ops : List OpView) → HaveSameOperations ops one_erased
-        → text (set_of ops) ≡ codes "ayb" }
-{}
-
-/// What the laws' words say of two runs at the root, `ab` and `xy`, and of a part without x.
-pub fn examples_of_order()
-    ensures walk { walked_ids (set_of two_runs) ≡ stamp 1 2 ∷ stamp 2 2 ∷ stamp 1 1 ∷ stamp 2 1 ∷ [] }
-    ensures part { IsPartOf (set_of one_waits) (set_of two_runs) }
-    ensures part_walk { walked_ids (set_of one_waits) ≡ stamp 1 1 ∷ stamp 2 1 ∷ [] }
-    ensures waiting { (map.contains_key (set_of one_waits).ins (stamp 2 2) ≡ true)
-        × (is_attached (set_of one_waits) (stamp 2 2) ≡ false) }
-    ensures order { Precedes (set_of two_runs) (stamp 2 2) (stamp 1 1)
-        × (Precedes (set_of two_runs) (stamp 1 1) (stamp 2 2) → ⊥) }
-    ensures below { StandsBelow (set_of two_runs).ins (stamp 1 1) (stamp 2 1)
-        × (StandsBelow (set_of two_runs).ins (stamp 1 1) (stamp 2 2) → ⊥) }
-    ensures runs { IsRun (set_of two_runs).ins (stamp 1 1 ∷ stamp 2 1 ∷ [])
-        × (IsRun (set_of two_runs).ins (stamp 1 1 ∷ stamp 2 2 ∷ []) → ⊥) }
-    ensures left { IsLeftOf (set_of two_runs) (stamp 1 2 ∷ stamp 2 2 ∷ []) (stamp 1 1 ∷ stamp 2 1 ∷ [])
-        × (IsLeftOf (set_of two_runs) (stamp 1 1 ∷ stamp 2 1 ∷ []) (stamp 1 2 ∷ stamp 2 2 ∷ []) → ⊥) }
 {}
