@@ -8,7 +8,7 @@ ghost use Rattle.bg_types.specs.Identifier.{id_cmp};
 use bg_types::{Id, Place};
 
 /// A placed insertion. An erased one stays where it stands, hidden.
-#[derive(Clone, Copy, Debug, PartialEq, Eq)]
+#[derive(Clone, Copy)]
 pub struct Element {
     // Before the identifiers, which need not begin at a multiple of 4 bytes.
     pub ch: char,
