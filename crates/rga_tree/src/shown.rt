@@ -22,19 +22,11 @@ pub fn push_shown(read: &mut String, bytes: &mut [u8], row: &[Element]) -> Resul
     let mut rest = row;
     while !rest.is_empty() {
         let (piece, after) = rest.split_at(rest.len().min(PIECE));
-        push_piece(read, bytes, piece)?;
+        let end = encode_shown(piece, bytes);
+        push_bytes(read, &bytes[..end])?;
         rest = after;
     }
     Ok(())
-}
-
-/// Appends the characters of the visible elements of a piece.
-fn push_piece(read: &mut String, bytes: &mut [u8], piece: &[Element]) -> Result<(), Memory>
-    requires { 4 * length piece.now ≤ length bytes.old }
-    ensures { OnOk result (string_bytes read.new ≡ string_bytes read.old ++ encode_utf8_all (shown_of piece.now)) }
-{
-    let end = encode_shown(piece, bytes);
-    push_bytes(read, &bytes[..end])
 }
 
 /// Appends characters that are given in UTF-8. If memory is refused, the text stays as it was.

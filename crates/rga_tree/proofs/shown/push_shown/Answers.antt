@@ -14,5 +14,5 @@ loop-rest-preserved c =
     let parted : piece ++ after ≡ rest =
     ap (λ p. p ++ after) c.split_at.ensures.front ∙ ap (λ q. take c.min.result rest ++ q) c.split_at.ensures.back
     ∙ take-append-drop c.min.result rest in
-    ap (λ t. t ++ bytes_of after) c.in_ok-push_piece.ensures ∙ append_assoc read (bytes_of piece) (bytes_of after)
+    ap (λ t. t ++ bytes_of after) (c.in_ok-push_bytes.ensures.ok ∙ ap (λ t. read ++ t) c.encode_shown-end.ensures.bytes) ∙ append_assoc read (bytes_of piece) (bytes_of after)
     ∙ ap (λ t. read ++ t) (sym (bytes-append piece after) ∙ ap bytes_of parted) ∙ c.loop-rest.invariant
