@@ -1,7 +1,8 @@
 -- What a row answers, by the walk that it is.
-use Rattle.std.proofs.Common.{◌≡◌, ℕ, zero, suc, ◌<◌, ◌+◌, true, false, cond, not, List, [], ◌∷◌, length, take, Option, Some, None, refl, sym, ap, ◌∙◌, arith}
-use Rattle.std.specs.Prelude.{map as each, filter, slice_get, IsSome, count_by}
+use Rattle.std.proofs.Common.{◌≡◌, ℕ, zero, suc, ◌+◌, true, false, cond, not, List, [], ◌∷◌, length, take, Option, Some, None, refl, sym, ap, ◌∙◌}
+use Rattle.std.specs.Prelude.{map as each, filter, slice_get, count_by}
 use Rattle.std.proofs.lemmas.List.Sums.{sum_by-cons}
+use Rattle.std.proofs.lemmas.Option.{slice_get-map}
 use Rattle.std.specs.Option.{option_map}
 use Rattle.std.specs.List.{find as find_in, prefix_len}
 use Rattle.std.specs.FinMap as map
@@ -54,19 +55,14 @@ filter_seen s (e ∷ es) =
 pub visible_elements : (row : List Element) → row ≡ elements (operations_of row) → filter (λ e. not e.hidden) row ≡ each (element_of (operations_of row)) (visible (operations_of row))
 visible_elements row in_order = ap (filter (λ e. not e.hidden)) in_order ∙ filter_seen (operations_of row) (walk (operations_of row) Root)
 
-slice_get-each : {X Y : Type 0} (f : X → Y) (xs : List X) (k : ℕ) → slice_get (each f xs) k ≡ option_map f (slice_get xs k)
-slice_get-each f [] k = refl
-slice_get-each f (x ∷ xs) zero = refl
-slice_get-each f (x ∷ xs) (suc k) = slice_get-each f xs k
-
 -- what a place among the visible ones tells
 pub seen_at : (row : List Element) (k : ℕ) (e : Element) → row ≡ elements (operations_of row) → slice_get (filter (λ x. not x.hidden) row) k ≡ Some e
     → (slice_get (visible_ids (operations_of row)) k ≡ Some e.id) × (slice_get (text (operations_of row)) k ≡ Some e.ch)
 seen_at row k e in_order is =
     let s = operations_of row in
     let v = visible s in
-    let at : option_map (element_of s) (slice_get v k) ≡ Some e = sym (slice_get-each (element_of s) v k) ∙ ap (λ r. slice_get r k) (sym (visible_elements row in_order)) ∙ is in
-    (slice_get-each (λ x. x.0) v k ∙ by_id (slice_get v k) at, slice_get-each (λ x. x.1.ch) v k ∙ by_ch (slice_get v k) at) where
+    let at : option_map (element_of s) (slice_get v k) ≡ Some e = sym (slice_get-map (element_of s) v k) ∙ ap (λ r. slice_get r k) (sym (visible_elements row in_order)) ∙ is in
+    (slice_get-map (λ x. x.0) v k ∙ by_id (slice_get v k) at, slice_get-map (λ x. x.1.ch) v k ∙ by_ch (slice_get v k) at) where
       by_id : (o : Option Entry) → option_map (element_of (operations_of row)) o ≡ Some e → option_map (λ (x : Entry). x.0) o ≡ Some e.id
       by_id None h = absurd cc
       by_id (Some x) h = let same : element_of (operations_of row) x ≡ e = cc in ap (λ (y : Element). Some y.id) same
@@ -74,14 +70,6 @@ seen_at row k e in_order is =
       by_ch : (o : Option Entry) → option_map (element_of (operations_of row)) o ≡ Some e → option_map (λ (x : Entry). x.1.ch) o ≡ Some e.ch
       by_ch None h = absurd cc
       by_ch (Some x) h = let same : element_of (operations_of row) x ≡ e = cc in ap (λ (y : Element). Some y.ch) same
-
-slice_get-some : {X : Type 0} (xs : List X) (k : ℕ) → k < length xs → IsSome (slice_get xs k)
-slice_get-some [] k h = absurd (omega arith)
-slice_get-some (x ∷ xs) zero h = refl
-slice_get-some (x ∷ xs) (suc k) h = slice_get-some xs k (omega arith)
-
-pub seen_some : (row : List Element) (k : ℕ) → row ≡ elements (operations_of row) → k < length (visible (operations_of row)) → IsSome (slice_get (filter (λ e. not e.hidden) row) k)
-seen_some row k in_order h = slice_get-some (filter (λ e. not e.hidden) row) k (omega (arith, visible_row row in_order))
 
 -- ---- how many visible ones stand before one
 

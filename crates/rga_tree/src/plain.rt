@@ -42,7 +42,7 @@ impl Plain {
         ensures id { slice_get (visible_ids (operations_of self.now.row.items)) k ≡ Some result.id }
         ensures ch { slice_get (text (operations_of self.now.row.items)) k ≡ Some result.ch }
     {
-        visible_at(&self.row, k).unwrap()
+        self.row[place_of_visible(&self.row, k)]
     }
 }
 
@@ -192,21 +192,6 @@ fn count_visible(row: &[Element]) -> usize
     ensures { result ≡ length (filter (λ e. not e.hidden) row.now) }
 {
     row.iter().filter(|e| !e.hidden).count()
-}
-
-fn visible_at(row: &[Element], k: usize) -> Option<Element>
-    ensures { result ≡ slice_get (filter (λ e. not e.hidden) row.now) k }
-{
-    let mut left = k;
-    for e in row {
-        if !e.hidden {
-            if left == 0 {
-                return Some(*e);
-            }
-            left -= 1;
-        }
-    }
-    None
 }
 
 /// How many elements stand before visible element k.
