@@ -1,6 +1,6 @@
 //! The plain sequence: one list, searched from the front.
 
-ghost use Rattle.std.specs.Prelude.{◌≡◌, ◌-◌, ◌+◌, ◌≤◌, ◌<◌, ◌∷◌, [], Some, not, length, filter, take, count_by, insert, slice_get, vec_len, vec_capacity};
+ghost use Rattle.std.specs.Prelude.{◌≡◌, ◌-◌, ◌+◌, ◌≤◌, ◌<◌, ◌∷◌, [], Some, not, length, filter, take, count_by, slice_get, vec_len, vec_capacity};
 ghost use Rattle.std.proofs.Common.{◌∙◌};
 ghost use Rattle.std.proofs.lemmas.List.{append-nil};
 ghost use Rattle.std.specs.List.{find as find_in, prefix_len, list_any};
@@ -66,7 +66,13 @@ impl Sequence for Plain {
         // Reading the identifier shows the proof that it is well formed.
         let _known = id.counter();
         let at = place_for(&self.row, id, &parent);
-        put_in(&mut self.row, at, id, parent, ch, hidden);
+        let element = Element {
+            id,
+            parent,
+            ch,
+            hidden,
+        };
+        self.row.insert(at, element).unwrap();
     }
 
     fn hide(&mut self, id: Id) {
@@ -135,27 +141,6 @@ impl Fresh for Plain {
     fn fresh(alloc: Global, _key: u128) -> Plain {
         Plain::new(alloc)
     }
-}
-
-/// Puts an element in at a place. There is room for it.
-fn put_in(row: &mut Vec<Element>, at: usize, id: Id, parent: Place, ch: char, hidden: bool)
-    requires within { at ≤ vec_len row.old }
-    requires room { vec_len row.old < vec_capacity row.old }
-    ensures items { row.new.items ≡ insert row.old.items at
-        (record { id = id; parent = parent; ch = ch; hidden = hidden }) }
-    ensures len { vec_len row.new ≡ vec_len row.old + 1 }
-    ensures capacity { vec_capacity row.new ≡ vec_capacity row.old }
-{
-    row.insert(
-        at,
-        Element {
-            id,
-            parent,
-            ch,
-            hidden,
-        },
-    )
-    .unwrap();
 }
 
 /// Where a new element goes: after its parent, and after all greater elements that follow there.
