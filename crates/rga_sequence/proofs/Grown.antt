@@ -1,32 +1,30 @@
 -- A block with one more element.
-use Rattle.std.proofs.Common.{◌≡◌, ℕ, suc, ◌≤◌, ◌+◌, ◌||◌, Bool, true, false, cond, not, List, [], ◌∷◌, ◌++◌, length, take, drop, refl, ap, ◌∙◌, arith}
-use Rattle.std.specs.Prelude.{filter, insert}
+use Rattle.std.proofs.Common.{◌≡◌, ℕ, ◌≤◌, ◌+◌, ◌||◌, Bool, true, false, cond, not, List, [], ◌∷◌, ◌++◌, length, take, drop, refl, ap, ◌∙◌, arith}
+use Rattle.std.specs.Prelude.{count_by, insert}
 use Rattle.std.specs.Ordering.{is_lt}
 use Rattle.std.specs.List.{list_all, list_any}
 use Rattle.std.proofs.lemmas.List.{take-append-drop}
+use Rattle.std.proofs.lemmas.List.Sums.{length-filter, sum_by-insert, count_by-le-length}
 use Rattle.bg_types.specs.Identifier.{Identifier, id_cmp, same_id}
+use Rattle.bg_types.proofs.Interface.{same_id-itself}
 use Rattle.rga_tree.specs.declared.element.Element.{Element}
 use Rattle.rga_sequence.specs.Blocks.{seen, none_below, is_least}
-use Rattle.rga_sequence.proofs.Least.{lower, itself, not_itself}
+use Rattle.rga_sequence.proofs.Least.{lower, not_itself}
 use Rattle.std.proofs.lemmas.Bool.{and_from, and_parts}
 
-seen_with : (l r : List Element) (n : Element) → seen (l ++ n ∷ r) ≡ seen (l ++ r) + cond n.hidden 0 1
-seen_with [] r n = elim n.hidden as (λ h. length (cond (not h) (n ∷ filter (λ e. not e.hidden) r) (filter (λ e. not e.hidden) r)) ≡ seen r + cond h 0 1) [ true ↦ omega arith | false ↦ omega arith ]
-seen_with (x ∷ l) r n =
-    let f = filter (λ e. not e.hidden) (l ++ n ∷ r) in
-    let g = filter (λ e. not e.hidden) (l ++ r) in
-    let rest = seen_with l r n in
-    elim x.hidden as (λ h. length (cond (not h) (x ∷ f) f) ≡ length (cond (not h) (x ∷ g) g) + cond n.hidden 0 1) [ true ↦ rest | false ↦ omega (arith, rest) ]
+-- an element counts as one, unless it is hidden
+pub seen_by : (es : List Element) → seen es ≡ count_by (λ e. not e.hidden) es
+seen_by es = length-filter (λ (e : Element). not e.hidden) es
+
+pub shown_weight : (h : Bool) → cond (not h) 1 0 ≡ cond h 0 1
+shown_weight true = refl
+shown_weight false = refl
 
 pub seen-insert : (es : List Element) (i : ℕ) (n : Element) → seen (insert es i n) ≡ seen es + cond n.hidden 0 1
-seen-insert es i n = seen_with (take i es) (drop i es) n ∙ ap (λ r. seen r + cond n.hidden 0 1) (take-append-drop i es)
+seen-insert es i n = omega (arith, seen_by (insert es i n), seen_by es, sum_by-insert (λ (e : Element). cond (not e.hidden) 1 0) es i n, shown_weight n.hidden)
 
 pub seen_le : (es : List Element) → seen es ≤ length es
-seen_le [] = omega arith
-seen_le (x ∷ es) =
-    let g = filter (λ e. not e.hidden) es in
-    let rest = seen_le es in
-    elim x.hidden as (λ h. length (cond (not h) (x ∷ g) g) ≤ suc (length es)) [ true ↦ omega (arith, rest) | false ↦ omega (arith, rest) ]
+seen_le es = omega (arith, seen_by es, count_by-le-length (λ (e : Element). not e.hidden) es)
 
 pub weight_le : (h : Bool) → cond h 0 1 ≤ 1
 weight_le true = omega arith
@@ -55,7 +53,7 @@ least-insert es i n m h = by_test (is_lt (id_cmp n.id m)) refl where
       let whole = take-append-drop i es in
       and_from (none_below n.id (insert es i n)) (list_any (λ e. same_id n.id e.id) (insert es i n))
       (all_with (λ e. not (is_lt (id_cmp e.id n.id))) (take i es) (drop i es) n (not_itself n.id) (ap (none_below n.id) whole ∙ low))
-      (any_here (λ e. same_id n.id e.id) (take i es) (drop i es) n (itself n.id))
+      (any_here (λ e. same_id n.id e.id) (take i es) (drop i es) n (same_id-itself n.id))
   by_test false ge =
       let p = and_parts (none_below m es) (list_any (λ e. same_id m e.id) es) h in
       let whole = take-append-drop i es in

@@ -1,5 +1,5 @@
 -- Blocks that are at least half full.
-use Rattle.std.proofs.Common.{◌≡◌, ℕ, zero, suc, ◌<◌, ◌≤◌, ◌+◌, ◌*◌, ◌&&◌, true, List, [], ◌∷◌, length, get_or, refl, ap, length-append, arith}
+use Rattle.std.proofs.Common.{◌≡◌, ℕ, zero, suc, ◌<◌, ◌≤◌, ◌+◌, ◌*◌, ◌&&◌, true, List, [], ◌∷◌, length, get_or, refl, length-append, length-set, arith}
 use Rattle.std.specs.Prelude.{insert, set, nat_lt}
 use Rattle.std.proofs.lemmas.Bool.{ltb-true, lt-ltb, and_from, and_parts}
 use Rattle.rga_tree.specs.declared.element.Element.{Element}
@@ -49,15 +49,9 @@ halves-set (x ∷ xs) (suc q) y h more =
     let p = and_parts (nat_lt 255 (length x)) (are_halves xs) h in
     and_from (nat_lt 255 (length x)) (are_halves (set xs q y)) p.0 (halves-set xs q y p.1 more)
 
-length_set : (xs : List (List Element)) (q : ℕ) (y : List Element) → length (set xs q y) ≡ length xs
-length_set [] zero y = refl
-length_set [] (suc q) y = refl
-length_set (x ∷ xs) zero y = refl
-length_set (x ∷ xs) (suc q) y = ap suc (length_set xs q y)
-
 -- a block that becomes no shorter
 pub AreHalfFull-set : (xs : List (List Element)) (q : ℕ) (y : List Element) → AreHalfFull xs → length (get_or xs q []) ≤ length y → AreHalfFull (set xs q y)
-AreHalfFull-set xs q y h more = λ many. halves-set xs q y (h (omega (arith, length_set xs q y, many))) more
+AreHalfFull-set xs q y h more = λ many. halves-set xs q y (h (omega (arith, length-set xs q y, many))) more
 
 halves_split : (xs : List (List Element)) (q : ℕ) (low high : List Element) → are_halves xs ≡ true → q < length xs → 255 < length low → 255 < length high → are_halves (insert (set xs q low) (suc q) high) ≡ true
 halves_split [] q low high h there l r = absurd (omega arith)

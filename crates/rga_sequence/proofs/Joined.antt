@@ -2,6 +2,7 @@
 use Rattle.std.proofs.Common.{◌≡◌, ℕ, zero, suc, ◌<◌, ◌≤◌, ◌+◌, ◌-◌, List, [], ◌∷◌, ◌++◌, length, take, drop, get_or, refl, sym, ap, ◌∙◌, zero-add, length-append, append_assoc, length-drop, length-take-le, arith}
 use Rattle.std.specs.Prelude.{insert, set}
 use Rattle.std.proofs.lemmas.List.{drop-append-le, drop-drop, drop_at, take-append-drop}
+use Rattle.std.proofs.lemmas.List.Folds.{length-flat_map-take}
 use Rattle.std.proofs.lemmas.List.Edits.{insert-append_left, insert-append_right}
 use Rattle.rga_tree.specs.declared.element.Element.{Element}
 use Rattle.rga_sequence.specs.Blocks.{joined, offset}
@@ -91,9 +92,7 @@ offset_high xs q at low high there =
     omega (arith, ap (λ k. length (joined (take k ys))) s, joined-suc ys q, ap length (split_low xs q low high there), ap (λ r. length (joined r)) (split_front xs q low high there))
 
 pub offset_within : (xs : List (List Element)) (q at : ℕ) → q < length xs → at ≤ length (get_or xs q []) → offset xs q at ≤ length (joined xs)
-offset_within [] q at there within = absurd (omega arith)
-offset_within (x ∷ xs) zero at there within = omega (arith, length-append x (joined xs))
-offset_within (x ∷ xs) (suc q) at there within = omega (arith, offset_within xs q at (omega arith) within, length-append x (joined xs), length-append x (joined (take q xs)))
+offset_within xs q at there within = omega (arith, length-flat_map-take (λ (x : List Element). x) xs q [] there, within)
 
 -- what the row is where a full block stands in two halves
 pub record IsHalved (xs ys : List (List Element)) (q : ℕ) : Type 0 where

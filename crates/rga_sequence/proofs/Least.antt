@@ -1,13 +1,13 @@
 -- Least identifiers.
 use Rattle.std.proofs.Common.{◌≡◌, ℕ, ◌<◌, ◌+◌, ◌&&◌, Bool, true, false, not, List, [], ◌∷◌, length, take, get_or, refl, sym, ap, ◌∙◌}
-use Rattle.std.specs.Ordering.{is_lt, is_eq}
+use Rattle.std.specs.Ordering.{is_lt}
 use Rattle.std.specs.Cmp.{tied_itself}
 use Rattle.std.specs.List.{list_any}
 use Rattle.std.proofs.lemmas.List.Folds.{list_all_more, list_any_at}
 use Rattle.bg_types.specs.Identifier.{Identifier, id_cmp, same_id}
 use Rattle.rga_tree.specs.declared.element.Element.{Element}
 use Rattle.rga_sequence.specs.Blocks.{none_below}
-use Rattle.bg_types.proofs.Interface.{id_cmp-total}
+use Rattle.bg_types.proofs.Interface.{id_cmp-total, same_id-itself}
 use Rattle.std.proofs.lemmas.Bool.{and_parts}
 use Rattle.rga_tree.proofs.Interface.{less_of}
 
@@ -24,9 +24,6 @@ lower m n (e ∷ es) h lt =
     let p = and_parts (not (is_lt (id_cmp e.id m))) (none_below m es) h in
     λ i. sym (sym (λ j. not_below e.id m n p.0 lt j && lower m n es p.1 lt j)) i
 
-pub itself : (a : Identifier) → same_id a a ≡ true
-itself a = ap is_eq (tied_itself id_cmp-total a)
-
 pub not_itself : (a : Identifier) → not (is_lt (id_cmp a a)) ≡ true
 not_itself a = ap (λ o. not (is_lt o)) (tied_itself id_cmp-total a)
 
@@ -36,7 +33,7 @@ pub least_lower : (row : List Element) (i : ℕ) (m : Identifier) (e : Element) 
 least_lower row i m e within is below lt = (
   list_all_more (λ x. not (is_lt (id_cmp x.id e.id))) row i e within
       ∙ (λ j. lower m e.id (take i row) below lt j && (ap (λ (x : Element). not (is_lt (id_cmp x.id e.id))) (sym is) ∙ not_itself e.id) j),
-  list_any_at (λ x. same_id e.id x.id) row i e within (ap (λ (x : Element). same_id e.id x.id) (sym is) ∙ itself e.id),
+  list_any_at (λ x. same_id e.id x.id) row i e within (ap (λ (x : Element). same_id e.id x.id) (sym is) ∙ same_id-itself e.id),
 )
 
 pub least_stays : (row : List Element) (i : ℕ) (m : Identifier) (e : Element) → i < length row → e ≡ get_or row i e → none_below m (take i row) ≡ true → is_lt (id_cmp e.id m) ≡ false

@@ -6,7 +6,7 @@ use Rattle.std.specs.declared.cmp.Ordering.{Ordering}
 use Rattle.std.specs.declared.cmp.Ordering.TheVariants.{Less, Equal, Greater}
 use Rattle.std.specs.Ordering.{is_lt}
 use Rattle.std.proofs.lemmas.Bool.{ltb-true, ltb-false, eqb-true, eqb-false, and_parts}
-use Rattle.std.proofs.lemmas.List.{get_or-set_same, get_or-set_other, get_or-drop, take-append-drop}
+use Rattle.std.proofs.lemmas.List.{get_or-set_same, get_or-set_other, get_or-drop, get_or_past, take-append-drop}
 use Rattle.std.proofs.lemmas.List.Edits.{get_or-insert_below}
 use Rattle.std.proofs.lemmas.List.Sums.{prefix_len_passes, prefix_len-le-length}
 use Rattle.bg_types.specs.Identifier.{Identifier, id_cmp, same_id}
@@ -90,14 +90,9 @@ bounds-split ms xs q n low high there before bounds = λ p d less under.
 -- what is true of all blocks
 pub bounds-all : (n : ℕ) (ms : List Identifier) (xs : List (List Element)) → length xs ≤ n → AreBoundsBelow n ms xs → AreBounds ms xs
 bounds-all n ms xs long bounds = λ p d less. by_place p d less (nat_lt p n) refl where
-  past : (zs : List (List Element)) (p : ℕ) (m : Identifier) → length zs ≤ p → none_below m (get_or zs p []) ≡ true
-  past [] p m h = refl
-  past (z ∷ zs) zero m h = absurd (omega (arith, h))
-  past (z ∷ zs) (suc p) m h = past zs p m (omega (arith, h))
-
   by_place : (p : ℕ) (d : Identifier) → p / 32 < length ms → (b : Bool) → nat_lt p n ≡ b → none_below (get_or ms (p / 32) d) (get_or xs p []) ≡ true
   by_place p d less true is = bounds p d (ltb-true _ _ is) less
-  by_place p d less false is = let far : n ≤ p = ltb-false _ _ is in past xs p (get_or ms (p / 32) d) (omega (arith, far, long))
+  by_place p d less false is = let far : n ≤ p = ltb-false _ _ is in ap (none_below (get_or ms (p / 32) d)) (get_or_past xs p [] (omega (arith, far, long)))
 
 below_or_at : (p q : ℕ) → p < q + 1 → (P : ℕ → Type 0) → (p < q → P p) → P q → P p
 below_or_at p q within P under at = by_place (nat_lt p q) refl where

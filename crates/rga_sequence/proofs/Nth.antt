@@ -2,10 +2,8 @@
 use Rattle.std.proofs.Common.{◌≡◌, ℕ, ◌<◌, ◌≤◌, ◌+◌, true, false, cond, List, [], ◌∷◌, ◌++◌, length, take, drop, Some, sym, ap, ◌∙◌, zero-add, length-append, length-drop, arith}
 use Rattle.std.specs.Prelude.{slice_get}
 use Rattle.std.proofs.Math.Seq.{take-add}
-use Rattle.std.proofs.lemmas.List.{drop-map, length-take-le, take-append-drop, take-map}
+use Rattle.std.proofs.lemmas.List.{length-take-le, take-append-drop}
 use Rattle.rga_tree.specs.declared.element.Element.{Element}
-use Rattle.rga_sequence.specs.declared.block.Block.{Block}
-use Rattle.rga_sequence.specs.BlockRows.{items_of}
 use Rattle.rga_sequence.specs.Blocks.{seen, seen_all}
 use Rattle.rga_sequence.proofs.Grown.{seen_le}
 use Rattle.rga_sequence.proofs.Seen.{not_all, seen-more}
@@ -55,10 +53,6 @@ visible-next es j e is visible = omega (arith, seen-more es j e is, ap {B = ℕ}
 pub further-there : (es : List Element) (at from : ℕ) (e : Element) → slice_get es at ≡ Some e → e.hidden ≡ true
     → seen (take at es) ≡ seen (take from es) → seen (take from es) < seen es → at + 1 < length es
 further-there es at from e is hidden same few = not_all es (at + 1) (omega (arith, hidden-next es at e is hidden, same, few))
-
--- a part of a row of blocks
-pub items_part : (bs : List Block) (b n : ℕ) → take n (drop b (items_of bs)) ≡ items_of (take n (drop b bs))
-items_part bs b n = let f = λ (x : Block). x.elements.items in ap (take n) (drop-map f b bs) ∙ take-map f n (drop b bs)
 
 pub seen_all-append : (xs ys : List (List Element)) → seen_all (xs ++ ys) ≡ seen_all xs + seen_all ys
 seen_all-append [] ys = sym (zero-add (seen_all ys))

@@ -1,13 +1,13 @@
 -- The places of blocks, by their numbers.
-use Rattle.std.proofs.Common.{◌≡◌, ◌≢◌, ℕ, zero, suc, ◌<◌, ◌≤◌, ◌+◌, ◌-◌, Bool, true, false, List, [], ◌∷◌, ◌++◌, length, get_or, Some, refl, sym, ap, ◌∙◌, arith}
+use Rattle.std.proofs.Common.{◌≡◌, ◌≢◌, ℕ, zero, suc, ◌<◌, ◌≤◌, ◌+◌, ◌-◌, Bool, true, false, List, [], ◌∷◌, ◌++◌, length, get_or, Some, refl, sym, ap, ◌∙◌, length-set, arith}
 use Rattle.std.specs.Prelude.{insert, set, slice_get, nat_lt}
 use Rattle.std.proofs.lemmas.Bool.{ltb-true, ltb-false}
+use Rattle.std.proofs.lemmas.Option.{slice_get-get_or, slice_get_within}
+use Rattle.std.proofs.lemmas.List.{get_or-set_same}
 use Rattle.std.proofs.lemmas.List.Edits.{get_or-insert_below, get_or-insert_at, get_or-insert_above}
 
 pub slice_get-set_same : (xs : List ℕ) (i v : ℕ) → i < length xs → slice_get (set xs i v) i ≡ Some v
-slice_get-set_same [] i v h = absurd (omega arith)
-slice_get-set_same (x ∷ xs) zero v h = refl
-slice_get-set_same (x ∷ xs) (suc i) v h = slice_get-set_same xs i v (omega arith)
+slice_get-set_same xs i v h = slice_get-get_or (set xs i v) i v (omega (arith, h, length-set xs i v)) ∙ ap Some (get_or-set_same xs i v v h)
 
 pub slice_get-set_other : (xs : List ℕ) (i j v : ℕ) → i ≢ j → slice_get (set xs i v) j ≡ slice_get xs j
 slice_get-set_other [] zero j v h = refl
@@ -16,11 +16,6 @@ slice_get-set_other (x ∷ xs) zero zero v h = absurd (h refl)
 slice_get-set_other (x ∷ xs) zero (suc j) v h = refl
 slice_get-set_other (x ∷ xs) (suc i) zero v h = refl
 slice_get-set_other (x ∷ xs) (suc i) (suc j) v h = slice_get-set_other xs i j v (λ e. h (ap suc e))
-
-pub slice_get-within : (xs : List ℕ) (i v : ℕ) → slice_get xs i ≡ Some v → i < length xs
-slice_get-within [] i v h = absurd cc
-slice_get-within (x ∷ xs) zero v h = omega arith
-slice_get-within (x ∷ xs) (suc i) v h = let more = slice_get-within xs i v h in omega arith
 
 pub slice_get-front : (xs ys : List ℕ) (i v : ℕ) → slice_get xs i ≡ Some v → slice_get (xs ++ ys) i ≡ Some v
 slice_get-front [] ys i v h = absurd cc
@@ -60,7 +55,7 @@ at_behind : (ns : List ℕ) (i p r m : ℕ) → p ≡ r + 1 → i ≤ r → i �
 at_behind ns i p r m is le w = ap (λ k. get_or (insert ns i m) k 0) is ∙ get_or-insert_above ns i m 0 r le w
 
 pub few_numbers : (ns places : List ℕ) (p : ℕ) → Inverts ns places → length places ≡ length ns → p < length ns → get_or ns p 0 < length ns
-few_numbers ns places p inverts many h = let few = slice_get-within places (get_or ns p 0) p (inverts p h) in omega arith
+few_numbers ns places p inverts many h = let few = slice_get_within places (get_or ns p 0) p (inverts p h) in omega arith
 
 -- a new number among the others: all are below their count
 pub inserted_known : (ns places : List ℕ) (i p : ℕ) → Inverts ns places → length places ≡ length ns → i ≤ length ns → p < length ns + 1 → get_or (insert ns i (length ns)) p 0 < length ns + 1

@@ -1,26 +1,22 @@
 -- A block with an element hidden.
 use Rattle.std.proofs.Common.{◌≡◌, ℕ, zero, suc, ◌<◌, ◌≤◌, ◌+◌, ◌&&◌, ◌||◌, Bool, true, false, cond, not, List, [], ◌∷◌, length, get_or, refl, sym, ap, ◌∙◌, arith}
-use Rattle.std.specs.Prelude.{filter, set}
+use Rattle.std.specs.Prelude.{set}
 use Rattle.std.specs.List.{list_all, list_any}
 use Rattle.std.specs.Ordering.{is_lt}
+use Rattle.std.proofs.lemmas.List.{get_or_default}
+use Rattle.std.proofs.lemmas.List.Sums.{sum_by-set}
 use Rattle.bg_types.specs.Identifier.{Identifier, id_cmp, same_id}
 use Rattle.rga_tree.specs.declared.element.Element.{Element}
 use Rattle.rga_sequence.specs.Blocks.{seen, is_least}
+use Rattle.rga_sequence.proofs.Grown.{seen_by, shown_weight}
 
 abbrev pub hidden_at : List Element → ℕ → Element → Element
 hidden_at es at d = record (get_or es at d) { hidden = true }
 
 pub seen-hide : (es : List Element) (at : ℕ) (d : Element) → at < length es → seen (set es at (hidden_at es at d)) + cond (get_or es at d).hidden 0 1 ≡ seen es
-seen-hide [] at d h = absurd (omega arith)
-seen-hide (x ∷ es) zero d h =
-    let g = filter (λ e. not e.hidden) es in
-    elim x.hidden as (λ b. length g + cond b 0 1 ≡ length (cond (not b) (x ∷ g) g)) [ true ↦ omega arith | false ↦ omega arith ]
-seen-hide (x ∷ es) (suc at) d h =
-    let f = filter (λ e. not e.hidden) (set es at (hidden_at es at d)) in
-    let g = filter (λ e. not e.hidden) es in
-    let w : ℕ = cond (get_or es at d).hidden 0 1 in
-    let rest = seen-hide es at d (omega arith) in
-    elim x.hidden as (λ b. length (cond (not b) (x ∷ f) f) + w ≡ length (cond (not b) (x ∷ g) g)) [ true ↦ rest | false ↦ omega (arith, rest) ]
+seen-hide es at d h =
+    let y = hidden_at es at d in
+    omega (arith, seen_by (set es at y), seen_by es, sum_by-set (λ (e : Element). cond (not e.hidden) 1 0) es at y d h, shown_weight (get_or es at d).hidden)
 
 pub all-hide : (p : Identifier → Bool) (es : List Element) (at : ℕ) (d : Element) → list_all (λ e. p e.id) (set es at (hidden_at es at d)) ≡ list_all (λ e. p e.id) es
 all-hide p [] zero d = refl
@@ -38,9 +34,7 @@ pub least-hide : (m : Identifier) (es : List Element) (at : ℕ) (d : Element) �
 least-hide m es at d = λ i. all-hide (λ q. not (is_lt (id_cmp q m))) es at d i && any-hide (same_id m) es at d i
 
 pub same_at : (es : List Element) (at : ℕ) (x e : Element) → at < length es → x ≡ get_or es at x → e ≡ get_or es at e → x ≡ e
-same_at [] at x e h p q = absurd (omega arith)
-same_at (y ∷ es) zero x e h p q = p ∙ sym q
-same_at (y ∷ es) (suc at) x e h p q = same_at es at x e (omega arith) p q
+same_at es at x e h p q = p ∙ get_or_default es at x e h ∙ sym q
 
 -- the write of the element that was read, hidden
 pub set-hide : (es : List Element) (at : ℕ) (e : Element) → e ≡ get_or es at e → set es at (record e { hidden = true }) ≡ set es at (hidden_at es at e)

@@ -1,7 +1,12 @@
 -- Elements of the row by their blocks.
-use Rattle.std.proofs.Common.{◌≡◌, ℕ, zero, suc, ◌<◌, ◌≤◌, ◌+◌, true, false, cond, not, List, [], ◌∷◌, ◌++◌, length, take, get_or, Option, Some, None, refl, sym, ap, subst, ◌∙◌, zero-add, length-append, arith}
+use Rattle.std.proofs.Common.{◌≡◌, ℕ, zero, suc, ◌<◌, ◌≤◌, ◌+◌, Bool, not, List, [], ◌∷◌, ◌++◌, length, take, get_or, Option, Some, None, refl, sym, ap, subst, ◌∙◌, zero-add, length-append, arith}
 use Rattle.std.specs.Prelude.{filter, set, slice_get, IsSome}
 use Rattle.std.specs.Option.{IfNone}
+use Rattle.std.proofs.lemmas.List.{set-append_left}
+use Rattle.std.proofs.lemmas.List.Concat.{get_or-flat_map}
+use Rattle.std.proofs.lemmas.List.Elements.{filter-append}
+use Rattle.std.proofs.lemmas.List.Folds.{length-flat_map-take}
+use Rattle.std.proofs.lemmas.Option.{get_or_from_slice_get, slice_get_within}
 use Rattle.rga_tree.specs.declared.element.Element.{Element}
 use Rattle.rga_sequence.specs.Blocks.{seen, joined, offset}
 use Rattle.rga_sequence.specs.declared.block.Block.{Block}
@@ -11,12 +16,6 @@ use Rattle.bg_types.specs.Identifier.{Identifier, same_id}
 use Rattle.rga_sequence.proofs.Members.{IsFirst, home-first, until, until_none, until-there, has-there}
 use Rattle.rga_sequence.proofs.Numbers.{length-items}
 use Rattle.rga_sequence.proofs.Passing.{items_there}
-use Rattle.rga_sequence.proofs.Places.{slice_get-within}
-
-get_or-some : (xs : List ℕ) (i v d : ℕ) → slice_get xs i ≡ Some v → get_or xs i d ≡ v
-get_or-some [] i v d h = absurd cc
-get_or-some (x ∷ xs) zero v d h = cc
-get_or-some (x ∷ xs) (suc i) v d h = get_or-some xs i v d h
 
 -- the block that the index and the places tell is the first that has the identifier
 pub found_first : (xs : List (List Element)) (ns places : List ℕ) (q : Identifier) (number r : ℕ) → ((p : ℕ) → p < length xs → slice_get places (get_or ns p 0) ≡ Some p)
@@ -24,13 +23,13 @@ pub found_first : (xs : List (List Element)) (ns places : List ℕ) (q : Identif
 found_first xs ns places q number r inverts found is =
     let f = home-first xs ns q number found in
     let at : slice_get places number ≡ Some f.0 = ap (slice_get places) (sym f.1.number) ∙ inverts f.0 f.1.there in
-    subst (IsFirst xs ns q number) (sym (is ∙ get_or-some places number f.0 r at)) f.1
+    subst (IsFirst xs ns q number) (sym (is ∙ get_or_from_slice_get places number f.0 r at)) f.1
 
 pub found_within : (xs : List (List Element)) (ns places : List ℕ) (q : Identifier) (number : ℕ) → ((p : ℕ) → p < length xs → slice_get places (get_or ns p 0) ≡ Some p)
     → home_of xs ns q ≡ Some number → number < length places
 found_within xs ns places q number inverts found =
     let f = home-first xs ns q number found in
-    slice_get-within places number f.0 (ap (slice_get places) (sym f.1.number) ∙ inverts f.0 f.1.there)
+    slice_get_within places number f.0 (ap (slice_get places) (sym f.1.number) ∙ inverts f.0 f.1.there)
 
 pub some_spot : (o : Option (ℕ × ℕ)) (q : Identifier) (es : List Element) → IfNone o (has q es ≡ false) → until q es + 1 ≤ length es → IsSome o
 some_spot None q es absent there = let all = until_none q es absent in absurd (omega arith)
@@ -38,21 +37,8 @@ some_spot (Some s) q es absent there = refl
 
 -- ---- the element at a place of the row
 
-get_or-past : (x y : List Element) (n : ℕ) (d : Element) → get_or (x ++ y) (length x + n) d ≡ get_or y n d
-get_or-past [] y n d = rw (zero-add n) refl
-get_or-past (e ∷ x) y n d = let s : suc (length x) + n ≡ suc (length x + n) = omega arith in rw s (get_or-past x y n d)
-
-get_or-in : (x y : List Element) (n : ℕ) (d : Element) → n < length x → get_or (x ++ y) n d ≡ get_or x n d
-get_or-in [] y n d h = absurd (omega arith)
-get_or-in (e ∷ x) y zero d h = refl
-get_or-in (e ∷ x) y (suc n) d h = get_or-in x y n d (omega arith)
-
 pub get_or_joined : (xs : List (List Element)) (p j : ℕ) (d : Element) → p < length xs → j < length (get_or xs p []) → get_or (joined xs) (offset xs p j) d ≡ get_or (get_or xs p []) j d
-get_or_joined [] p j d there within = absurd (omega arith)
-get_or_joined (x ∷ xs) zero j d there within = rw (zero-add j) (get_or-in x (joined xs) j d within)
-get_or_joined (x ∷ xs) (suc p) j d there within =
-    let e : length (x ++ joined (take p xs)) + j ≡ length x + offset xs p j = omega (arith, length-append x (joined (take p xs))) in
-    rw e (get_or-past x (joined xs) (offset xs p j) d ∙ get_or_joined xs p j d (omega arith) within)
+get_or_joined xs p j d there within = get_or-flat_map (λ (x : List Element). x) xs p j [] d there within
 
 slice_get-past : (x y : List Element) (n : ℕ) → slice_get (x ++ y) (length x + n) ≡ slice_get y n
 slice_get-past [] y n = rw (zero-add n) refl
@@ -74,26 +60,18 @@ set-past : (x y : List Element) (n : ℕ) (v : Element) → set (x ++ y) (length
 set-past [] y n v = rw (zero-add n) refl
 set-past (e ∷ x) y n v = let s : suc (length x) + n ≡ suc (length x + n) = omega arith in rw s (ap (λ r. e ∷ r) (set-past x y n v))
 
-set-in : (x y : List Element) (n : ℕ) (v : Element) → n < length x → set (x ++ y) n v ≡ set x n v ++ y
-set-in [] y n v h = absurd (omega arith)
-set-in (e ∷ x) y zero v h = refl
-set-in (e ∷ x) y (suc n) v h = ap (λ r. e ∷ r) (set-in x y n v (omega arith))
-
 -- a write in a block is a write in the row
 pub set_joined : (xs : List (List Element)) (p j : ℕ) (v : Element) → p < length xs → j < length (get_or xs p []) → joined (set xs p (set (get_or xs p []) j v)) ≡ set (joined xs) (offset xs p j) v
 set_joined [] p j v there within = absurd (omega arith)
-set_joined (x ∷ xs) zero j v there within = rw (zero-add j) (sym (set-in x (joined xs) j v within))
+set_joined (x ∷ xs) zero j v there within = rw (zero-add j) (sym (set-append_left x (joined xs) j v within))
 set_joined (x ∷ xs) (suc p) j v there within =
     let e : length (x ++ joined (take p xs)) + j ≡ length x + offset xs p j = omega (arith, length-append x (joined (take p xs))) in
     rw e (ap (λ r. x ++ r) (set_joined xs p j v (omega arith) within) ∙ sym (set-past x (joined xs) (offset xs p j) v))
 
 pub seen-append : (x y : List Element) → seen (x ++ y) ≡ seen x + seen y
-seen-append [] y = sym (zero-add (seen y))
-seen-append (e ∷ x) y =
-    let f = filter (λ z. not z.hidden) (x ++ y) in
-    let g = filter (λ z. not z.hidden) x in
-    let rest = seen-append x y in
-    elim e.hidden as (λ b. length (cond (not b) (e ∷ f) f) ≡ length (cond (not b) (e ∷ g) g) + seen y) [ true ↦ rest | false ↦ omega (arith, rest) ]
+seen-append x y =
+    let shown : Element → Bool = λ e. not e.hidden in
+    ap length (filter-append shown x y) ∙ length-append (filter shown x) (filter shown y)
 
 pub seen_set : (xs : List (List Element)) (p : ℕ) (y : List Element) → p < length xs → seen (joined (set xs p y)) + seen (get_or xs p []) ≡ seen (joined xs) + seen y
 seen_set [] p y there = absurd (omega arith)
@@ -110,9 +88,7 @@ more_blocks (x ∷ xs) (suc b) k j there place within =
     omega arith
 
 pub offset_less : (xs : List (List Element)) (p j : ℕ) → p < length xs → j < length (get_or xs p []) → offset xs p j < length (joined xs)
-offset_less [] p j there within = absurd (omega arith)
-offset_less (x ∷ xs) zero j there within = omega (arith, length-append x (joined xs))
-offset_less (x ∷ xs) (suc p) j there within = omega (arith, offset_less xs p j (omega arith) within, length-append x (joined xs), length-append x (joined (take p xs)))
+offset_less xs p j there within = omega (arith, length-flat_map-take (λ (x : List Element). x) xs p [] there, within)
 
 -- ---- an element that was read in its block
 

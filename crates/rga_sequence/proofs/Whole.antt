@@ -3,6 +3,9 @@ use Rattle.std.proofs.Common.{◌≡◌, ℕ, zero, suc, ◌<◌, ◌≤◌, ◌
 use Rattle.std.specs.Prelude.{slice_get}
 use Rattle.std.specs.List.{prefix_len}
 use Rattle.std.specs.Ordering.{is_lt}
+use Rattle.std.proofs.lemmas.List.{get_or_default}
+use Rattle.std.proofs.lemmas.List.Sums.{prefix_len-le-length}
+use Rattle.std.proofs.lemmas.Option.{slice_get_read}
 use Rattle.bg_types.specs.Identifier.{Identifier, id_cmp}
 use Rattle.bg_types.specs.declared.op.Place.{Place}
 use Rattle.rga_tree.specs.Row.{start_of, place_of}
@@ -22,28 +25,15 @@ pub less_room : (r : Row) (n m : ℕ) → HasRoom r n → m ≤ n → HasRoom r 
 less_room r n m room less = record { paid = omega (arith, room.paid); index = (omega (arith, room.index.0), omega (arith, room.index.1)); blocks = room.blocks; places = room.places; few = room.few }
 
 pub any_default : (es : List Element) (i : ℕ) (d : Element) → i < length es → get_or es i d ≡ get_or es i (get_or es i d)
-any_default [] i d h = absurd (omega arith)
-any_default (e ∷ es) zero d h = refl
-any_default (e ∷ es) (suc i) d h = any_default es i d (omega arith)
-
-pub slice_get_is : {X : Type 0} (xs : List X) (i : ℕ) (x : X) → i < length xs → x ≡ get_or xs i x → slice_get xs i ≡ Some x
-slice_get_is [] i x there is = absurd (omega arith)
-slice_get_is (y ∷ xs) zero x there is = ap Some (sym is)
-slice_get_is (y ∷ xs) (suc i) x there is = slice_get_is xs i x (omega arith) is
+any_default es i d h = get_or_default es i d (get_or es i d) h
 
 -- an element that was read in its block
 pub element_is : (bs : List Block) (b j : ℕ) (x : Block) (e : Element) → j < length (get_or (items_of bs) b []) → x ≡ get_or bs b x → e ≡ get_or x.elements.items j e → slice_get (get_or (items_of bs) b []) j ≡ Some e
 element_is [] b j x e there block is = absurd (omega arith)
-element_is (y ∷ bs) zero j x e there block is = slice_get_is y.elements.items j e there (is ∙ ap (λ (z : Block). get_or z.elements.items j e) block)
+element_is (y ∷ bs) zero j x e there block is = slice_get_read y.elements.items (length y.elements.items) j e refl there (is ∙ ap (λ (z : Block). get_or z.elements.items j e) block)
 element_is (y ∷ bs) (suc b) j x e there block is = element_is bs b j x e there block is
-
-prefix_within : (p : Element → Bool) (es : List Element) → prefix_len p es ≤ length es
-prefix_within p [] = omega arith
-prefix_within p (e ∷ es) =
-    let rest = prefix_within p es in
-    elim (p e) as (λ b. cond b (1 + prefix_len p es) 0 ≤ length (e ∷ es)) [ true ↦ omega (arith, rest) | false ↦ omega arith ]
 
 pub place_within : (parent : Place) (id : Identifier) (row : List Element) → start_of parent row ≤ length row → place_of parent id row ≤ length row
 place_within parent id row start =
     let rest = drop (start_of parent row) row in
-    omega (arith, prefix_within (λ e. is_lt (id_cmp id e.id)) rest, length-drop (start_of parent row) row, start)
+    omega (arith, prefix_len-le-length (λ e. is_lt (id_cmp id e.id)) rest, length-drop (start_of parent row) row, start)
