@@ -14,6 +14,7 @@ use Rattle.rga_tree.specs.Row.{entry_of, hidden_ids, operations_of}
 use Rattle.rga_tree.proofs.WalkAmong.{Entry}
 use Rattle.rga_tree.proofs.Entries.{IsAbsent, absent_of}
 use Rattle.rga_tree.proofs.SetSteps.{node_of, grown}
+use Rattle.rga_tree.proofs.TreeAttached.{all_last}
 
 cond_swap : {A : Type 0} (a b : Bool) (x y z : A) → (a ≡ true → b ≡ true → ⊥) → cond a x (cond b y z) ≡ cond b y (cond a x z)
 cond_swap true true x y z apart = absurd (apart refl refl)
@@ -62,10 +63,6 @@ all_front : (P : Entry → Type 0) (xs ys : List Entry) → AllByRecursion P (xs
 all_front P [] ys h = tt
 all_front P (x ∷ xs) ys h = (h.0, all_front P xs ys h.1)
 
-all_back : (P : Entry → Type 0) (xs ys : List Entry) → AllByRecursion P (xs ++ ys) → AllByRecursion P ys
-all_back P [] ys h = h
-all_back P (x ∷ xs) ys h = all_back P xs ys h.1
-
 pub get_row : (row : List Element) (q : Identifier) → map.get (operations_of row).ins q ≡ find id_cmp q (each entry_of row)
 get_row row q = map.get-from_entries id_cmp-total (each entry_of row) q
 
@@ -82,7 +79,7 @@ pub absent_parts : (row : List Element) (i : ℕ) (id : Identifier) → IsAbsent
 absent_parts row i id h =
     let split : IsAbsent id (each entry_of (take i row) ++ each entry_of (drop i row)) =
     subst (λ es. IsAbsent id es) (sym (sym (map-append entry_of (take i row) (drop i row)) ∙ ap (each entry_of) (take-append-drop i row))) h in
-    (all_front (λ e. same_id id e.0 ≡ false) (each entry_of (take i row)) (each entry_of (drop i row)) split, all_back (λ e. same_id id e.0 ≡ false) (each entry_of (take i row)) (each entry_of (drop i row)) split)
+    (all_front (λ e. same_id id e.0 ≡ false) (each entry_of (take i row)) (each entry_of (drop i row)) split, all_last (λ e. same_id id e.0 ≡ false) (each entry_of (take i row)) (each entry_of (drop i row)) split)
 
 pub ops-insert : (row : List Element) (i : ℕ) (n : Element) → IsAbsent n.id (each entry_of row) → operations_of (insert row i n) ≡ grown (operations_of row) n
 ops-insert row i n absent =

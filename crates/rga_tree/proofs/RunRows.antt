@@ -1,5 +1,5 @@
 -- A row of elements in which a run is put.
-use Rattle.std.proofs.Common.{◌≡◌, ◌≤◌, ◌<◌, ◌+◌, ◌^◌, ℕ, zero, suc, Bool, true, false, cond, not, List, [], ◌∷◌, ◌++◌, length, take, drop, refl, sym, ap, subst, ◌∙◌, arith}
+use Rattle.std.proofs.Common.{◌≡◌, ◌≤◌, ◌<◌, ◌+◌, ◌^◌, ℕ, zero, suc, Bool, true, false, cond, not, List, [], ◌∷◌, ◌++◌, length, take, drop, refl, sym, ap, subst, ◌∙◌, append_assoc, arith}
 use Rattle.std.specs.Prelude.{insert, map as each}
 use Rattle.std.specs.List.{AllByRecursion, prefix_len}
 use Rattle.std.specs.Ordering.{is_lt}
@@ -48,14 +48,10 @@ drop-insert [] (suc i) x within = absurd (omega arith)
 drop-insert (y ∷ xs) zero x within = refl
 drop-insert (y ∷ xs) (suc i) x within = drop-insert xs i x (omega arith)
 
-one_joined : {X : Type 0} (l r : List X) (x : X) → (l ++ x ∷ []) ++ r ≡ l ++ x ∷ r
-one_joined [] r x = refl
-one_joined (y ∷ l) r x = ap (λ m. y ∷ m) (one_joined l r x)
-
 pub put_in-cons : {X : Type 0} (xs : List X) (i : ℕ) (x : X) (ys : List X) → i ≤ length xs → put_in (insert xs i x) (i + 1) ys ≡ put_in xs i (x ∷ ys)
 put_in-cons xs i x ys within =
     let e : i + 1 ≡ suc i = omega arith in
-    ap (λ k. put_in (insert xs i x) k ys) e ∙ (λ j. take-insert xs i x within j ++ (ys ++ drop-insert xs i x within j)) ∙ one_joined (take i xs) (ys ++ drop i xs) x
+    ap (λ k. put_in (insert xs i x) k ys) e ∙ (λ j. take-insert xs i x within j ++ (ys ++ drop-insert xs i x within j)) ∙ append_assoc (take i xs) (x ∷ []) (ys ++ drop i xs)
 
 -- ---- where the next one of a run goes
 

@@ -2,6 +2,7 @@
 use Rattle.std.proofs.Common.{◌≡◌, Bool, true, false, cond, ◌||◌, Option, Some, refl, sym, ap, subst, ◌∙◌}
 use Rattle.std.specs.Prelude.{is_some}
 use Rattle.std.specs.Ordering.{eq_by_cmp}
+use Rattle.std.proofs.lemmas.Bool.{or_right}
 use Rattle.std.specs.Cmp.{eq_by_cmp_equiv}
 use Rattle.std.specs.FinMap as map
 use Rattle.std.specs.FinSet as set
@@ -35,10 +36,6 @@ with_element-grown s n =
     elim n.hidden as (λ b. cond b (with_operation t (Erase n.id)) t ≡ record { ins = map.insert s.ins n.id (node_of n); del = cond b (set.insert s.del n.id) s.del }) [ true ↦ refl | false ↦ refl ]
 
 -- ---- well-formed operations
-
-at_identifier : (a b : Bool) (x y z : Node) (o : Option Node) → cond a (Some x) o ≡ Some y → (a ≡ true → x ≡ y → ⊥) → o ≡ Some y
-at_identifier true b x y z o h other = let same : x ≡ y = cc in absurd (other refl same)
-at_identifier false b x y z o h other = h
 
 AllWellFormed-insert : (s : OperationSet) (id : Identifier) (node : Node) → AllWellFormed s → IsWellFormed (Insert id node.parent node.ch) → AllWellFormed (with_operation s (Insert id node.parent node.ch))
 AllWellFormed-insert s id node well is (Erase target) held = well (Erase target) held
@@ -81,13 +78,9 @@ placed_on s n q h = ap is_some (map.get-insert id_cmp-total s.ins n.id (node_of 
   by_test true o h = refl
   by_test false o h = h
 
-or_right : (b : Bool) → (b || true) ≡ true
-or_right true = refl
-or_right false = refl
-
 stands_on : (s : OperationSet) (n : Element) (p : Place) → stands_in s p ≡ true → stands_in (grown s n) p ≡ true
 stands_on s n Root h = refl
-stands_on s n (After a) h = placed_on s n a (ap (λ b. eq_by_cmp id_cmp a n.id || b) h ∙ or_right (eq_by_cmp id_cmp a n.id))
+stands_on s n (After a) h = placed_on s n a (ap (λ b. eq_by_cmp id_cmp a n.id || b) h ∙ or_right (eq_by_cmp id_cmp a n.id) true refl)
 
 pub IsTree-grown : (s : OperationSet) (n : Element) → IsTree s → stands_in s n.parent ≡ true → IsTree (grown s n)
 IsTree-grown s n tree stands id node found =
@@ -106,7 +99,7 @@ OnlyErasesPlaced-grown s n only id held =
       by_mark true h =
           let was : (eq_by_cmp id_cmp id n.id || set.contains s.del id) ≡ true = sym (set.contains-insert id_cmp-total s.del n.id id) ∙ h in
           elim (eq_by_cmp id_cmp id n.id) as (λ c. (c || set.contains s.del id) ≡ true → (c || map.contains_key s.ins id) ≡ true) [ true ↦ λ _. refl | false ↦ λ k. only id k ] was
-      by_mark false h = ap (λ b. eq_by_cmp id_cmp id n.id || b) (only id h) ∙ or_right (eq_by_cmp id_cmp id n.id)
+      by_mark false h = ap (λ b. eq_by_cmp id_cmp id n.id || b) (only id h) ∙ or_right (eq_by_cmp id_cmp id n.id) true refl
 
 pub OnlyErasesPlaced-erase : (s : OperationSet) (id : Identifier) → OnlyErasesPlaced s → map.contains_key s.ins id ≡ true → OnlyErasesPlaced (with_operation s (Erase id))
 OnlyErasesPlaced-erase s id only stands q held =

@@ -5,6 +5,7 @@ use Rattle.std.specs.List.{AllByRecursion, flat_map, list_any}
 use Rattle.std.proofs.lemmas.List.{append-nil, reverse-append}
 use Rattle.std.proofs.lemmas.List.Concat.{flat_map-cons}
 use Rattle.std.proofs.lemmas.List.Elements.{filter-append}
+use Rattle.std.proofs.lemmas.List.Sums.{length-filter, count_by-le-length}
 use Rattle.std.specs.FinMap as map
 use Rattle.std.specs.FinMap.Entries.{where_key, is_sorted-where_key, find-where_key, same_entries}
 use Rattle.bg_types.specs.Identifier.{Identifier, id_cmp, same_id}
@@ -106,8 +107,7 @@ children-part s t q part =
     ap (λ es. reverse (filter at es)) (entries-part s t part) ∙ ap reverse (filter_swap at kept (entries_of t)) ∙ filter_reverse kept (filter at (entries_of t))
 
 pub length-filter_le : (p : Entry → Bool) (es : List Entry) → length (filter p es) ≤ length es
-length-filter_le p [] = omega arith
-length-filter_le p (e ∷ es) = let rest = length-filter_le p es in elim (p e) as (λ b. length (cond b (e ∷ filter p es) (filter p es)) ≤ length (e ∷ es)) [ true ↦ omega arith | false ↦ omega arith ]
+length-filter_le p es = omega (arith, length-filter p es, count_by-le-length p es)
 
 -- ---- what the part has attached
 

@@ -49,10 +49,6 @@ pub all_last : (P : Entry → Type 0) (l r : List Entry) → AllByRecursion P (l
 all_last P [] r h = h
 all_last P (x ∷ l) r h = all_last P l r h.1
 
-rises_last : (l r : List Entry) → Rises (l ++ r) → Rises r
-rises_last [] r h = h
-rises_last (x ∷ l) r h = rises_last l r h.1
-
 found_in : (s : OperationSet) (a : Identifier) → map.contains_key s.ins a ≡ true → (node : Node) × IsIn (a, node) (entries_of s)
 found_in s a h = by_look (map.get s.ins a) refl h where
   by_look : (o : Option Node) → map.get s.ins a ≡ o → is_some o ≡ true → (node : Node) × IsIn (a, node) (entries_of s)

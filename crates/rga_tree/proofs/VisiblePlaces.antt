@@ -3,6 +3,8 @@ use Rattle.std.proofs.Common.{◌≡◌, ℕ, zero, suc, ◌<◌, ◌+◌, true,
 use Rattle.std.specs.Prelude.{filter, slice_get, map as each}
 use Rattle.std.specs.List.{flat_map}
 use Rattle.std.proofs.lemmas.List.{drop-map}
+use Rattle.std.proofs.lemmas.List.Filters.{length-filter_more}
+use Rattle.std.proofs.lemmas.Option.{get_or_from_slice_get, slice_get_within}
 use Rattle.bg_types.specs.OperationSet.{OperationSet}
 use Rattle.bg_types.specs.declared.op.Place.TheVariants.{Root}
 use Rattle.rga_tree.specs.declared.element.Element.{Element}
@@ -18,20 +20,11 @@ abbrev joined : List (List Element) → List Element
 joined parts = flat_map (λ part. part) parts
 
 -- one more element
-seen-suc : (es : List Element) (j : ℕ) (e : Element) → slice_get es j ≡ Some e → seen (take (suc j) es) ≡ seen (take j es) + cond e.hidden 0 1
-seen-suc [] j e is = absurd cc
-seen-suc (x ∷ es) zero e is =
-    let same : x ≡ e = cc in
-    ap (λ (y : Element). length (cond (not y.hidden) (y ∷ []) [])) same ∙ elim e.hidden as (λ h. length (cond (not h) (e ∷ []) []) ≡ 0 + cond h 0 1) [ true ↦ refl | false ↦ refl ]
-seen-suc (x ∷ es) (suc j) e is =
-    let rest = seen-suc es j e is in
-    elim x.hidden as (λ h. length (cond (not h) (x ∷ filter (λ e. not e.hidden) (take (suc j) es)) (filter (λ e. not e.hidden) (take (suc j) es))) ≡ length (cond (not h) (x ∷ filter (λ e. not e.hidden) (take j es)) (filter (λ e. not e.hidden) (take j es))) + cond e.hidden 0 1) [
-      | true ↦ rest
-      | false ↦ omega (arith, rest)
-    ]
-
 pub seen-more : (es : List Element) (j : ℕ) (e : Element) → slice_get es j ≡ Some e → seen (take (j + 1) es) ≡ seen (take j es) + cond e.hidden 0 1
-seen-more es j e is = let s : j + 1 ≡ suc j = omega arith in rw s (seen-suc es j e is)
+seen-more es j e is =
+    let one : cond (not e.hidden) 1 0 ≡ cond e.hidden 0 1 = elim e.hidden as (λ h. cond (not h) 1 0 ≡ cond h 0 1) [ true ↦ refl | false ↦ refl ] in
+    length-filter_more (λ x. not x.hidden) es j e (slice_get_within es j e is)
+    ∙ ap (λ (x : Element). seen (take j es) + cond (not x.hidden) 1 0) (get_or_from_slice_get es j e e is) ∙ ap (λ n. seen (take j es) + n) one
 
 -- ---- the visible elements of all parts
 
@@ -120,12 +113,7 @@ shown_elements s = ap (each (λ (x : Element). x.id)) (filter_seen s (walk s Roo
 pub place_within : (parts : List (List Element)) (k p j : ℕ) (e : Element) → IsVisiblePlace parts k p j e → (p < length parts) × (j < length (get_or parts p []))
 place_within parts k p j e place = by parts p place.there
   where
-    in_part : (es : List Element) (j : ℕ) → slice_get es j ≡ Some e → j < length es
-    in_part [] j is = absurd cc
-    in_part (y ∷ es) zero is = omega arith
-    in_part (y ∷ es) (suc j) is = omega (arith, in_part es j is)
-
     by : (parts : List (List Element)) (p : ℕ) → slice_get (get_or parts p []) j ≡ Some e → (p < length parts) × (j < length (get_or parts p []))
     by [] p is = absurd cc
-    by (x ∷ parts) zero is = (omega arith, in_part x j is)
+    by (x ∷ parts) zero is = (omega arith, slice_get_within x j e is)
     by (x ∷ parts) (suc p) is = let rest = by parts p is in (omega (arith, rest.0), rest.1)
