@@ -1,5 +1,5 @@
 -- What is known of the insertions of a set, in rising order.
-use Rattle.std.proofs.Common.{◌≡◌, true, false, cond, T, List, [], ◌∷◌, Some, None, refl, sym, ap, ◌∙◌}
+use Rattle.std.proofs.Common.{◌≡◌, Bool, true, false, cond, T, List, [], ◌∷◌, Some, None, refl, sym, ap, ◌∙◌, true≢false}
 use Rattle.std.specs.declared.cmp.Ordering.TheVariants.{Less}
 use Rattle.std.specs.Ordering.{nat_cmp, ordering_then}
 use Rattle.std.specs.Cmp.{nat_cmp_is}
@@ -12,10 +12,11 @@ use Rattle.bg_types.specs.OperationSet.{OperationSet, AllWellFormed}
 use Rattle.bg_types.specs.declared.op.Place.{Place}
 use Rattle.bg_types.specs.declared.op.Place.TheVariants.{Root, After}
 use Rattle.bg_types.specs.declared.op.OpView.TheVariants.{Insert}
-use Rattle.bg_types.proofs.Interface.{same_id-is, all_weaker, both_of, above_of, entries-found}
+use Rattle.bg_types.proofs.Interface.{all_weaker, both_of, above_of, entries-found, none_of}
 use Rattle.rga_tree.specs.Walk.{same_place}
+use Rattle.rga_tree.specs.Leaf.{IsParent}
 use Rattle.rga_tree.specs.Tree.{stands_in, IsTree}
-use Rattle.rga_tree.proofs.WalkAmong.{Entry, Rises, AreWellFounded, IsLow, IsChildless}
+use Rattle.rga_tree.proofs.WalkAmong.{Entry, Rises, AreWellFounded, IsLow, IsChildless, same_is}
 
 -- none of these has the identifier
 abbrev pub IsAbsent : Identifier → List Entry → Type 0
@@ -51,15 +52,17 @@ low_of (After a) k h = ap (λ o. ordering_then o (nat_cmp a.site k.site)) (sym (
 pub AreWellFounded-entries : (s : OperationSet) → AllWellFormed s → AreWellFounded (entries_of s)
 AreWellFounded-entries s well = all_entries s (λ e. IsLow e.1.parent e.0) (λ e held. low_of e.1.parent e.0 (well (Insert e.0 e.1.parent e.1.ch) held).1)
 
--- a place in the set is not after a new identifier
-no_parent : (s : OperationSet) (p : Place) (n : Identifier) → stands_in s p ≡ true → map.contains_key s.ins n ≡ false → same_place p (After n) ≡ false
-no_parent s Root n stands new = refl
-no_parent s (After a) n stands new =
-    elim (same_id a n) as (λ b. same_id a n ≡ b → b ≡ false) [
-      | true ↦ λ same. let e : map.contains_key s.ins a ≡ false = ap (map.contains_key s.ins) (same_id-is a n same) ∙ new in absurd cc
-      | false ↦ λ _. refl
-    ] refl
+-- what is no parent has no child
+pub childless : (s : OperationSet) (id : Identifier) → (IsParent s id → ⊥) → IsChildless id (entries_of s)
+childless s id none = all_entries s (λ e. same_place e.1.parent (After id) ≡ false) (λ e held. by_test e held (same_place e.1.parent (After id)) refl) where
+  by_test : (e : Entry) → map.get s.ins e.0 ≡ Some e.1 → (b : Bool) → same_place e.1.parent (After id) ≡ b → b ≡ false
+  by_test e held true is = absurd (none (e.0, e.1, held, same_is e.1.parent (After id) is))
+  by_test e held false is = refl
 
--- where each parent is in the set, a new identifier has no child
-pub IsChildless-entries : (s : OperationSet) (n : Identifier) → IsTree s → map.contains_key s.ins n ≡ false → IsChildless n (entries_of s)
-IsChildless-entries s n tree new = all_entries s (λ e. same_place e.1.parent (After n) ≡ false) (λ e held. no_parent s e.1.parent n (tree e.0 e.1 held) new)
+-- where each parent is in the set, a new identifier is none
+pub no_parent : (s : OperationSet) (id : Identifier) → IsTree s → map.contains_key s.ins id ≡ false → IsParent s id → ⊥
+no_parent s id tree new h = true≢false (sym (ap (stands_in s) (sym h.3) ∙ tree h.0 h.1 h.2) ∙ new)
+
+-- and none of its insertions has it
+pub IsAbsent-entries : (s : OperationSet) (id : Identifier) → map.contains_key s.ins id ≡ false → IsAbsent id (entries_of s)
+IsAbsent-entries s id new = absent_of id (entries_of s) (sym (map.get-entries s.ins id) ∙ none_of (map.get s.ins id) new)

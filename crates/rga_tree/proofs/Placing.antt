@@ -20,8 +20,8 @@ use Rattle.rga_tree.specs.Elements.{element_of, elements, with_element}
 use Rattle.rga_tree.specs.Row.{entry_of, hidden_ids, operations_of, ids_of, is_distinct, start_of, place_of}
 use Rattle.rga_tree.specs.KeepsWalk.{KeepsWalk}
 use Rattle.rga_tree.proofs.WalkAmong.{Entry}
-use Rattle.rga_tree.proofs.Entries.{IsAbsent}
-use Rattle.rga_tree.proofs.SetSteps.{node_of, grown, with_element-grown, AllWellFormed-element, IsTree-grown, OnlyErasesPlaced-grown, walk-leaf, same_id-swap, mark_kept, mark_new}
+use Rattle.rga_tree.proofs.Entries.{IsAbsent, IsAbsent-entries, childless, no_parent}
+use Rattle.rga_tree.proofs.SetSteps.{node_of, grown, with_element-grown, AllWellFormed-element, IsTree-grown, OnlyErasesPlaced-grown, walk-new, same_id-swap, mark_kept, mark_new}
 use Rattle.rga_tree.proofs.RowPlaces.{AreDistinct, distinct_of, among-insert}
 use Rattle.rga_tree.proofs.RowSets.{get_row, absent_row, absent_parts, ops-insert, no_hidden}
 
@@ -53,7 +53,7 @@ in_order-insert row n in_order distinct tree well is new within =
     let distinct_w : AreDistinct w = distinct_of s w (ap (λ r. is_distinct (ids_of r)) (sym in_order) ∙ distinct) in
     let within_w : start_of n.parent (each (element_of s) w) ≤ length (each (element_of s) w) = subst (λ r. start_of n.parent r ≤ length r) in_order within in
     let walked : walk (grown s n) Root ≡ insert w i entry =
-    walk-leaf s n.id (node_of n) well tree is new ∙ among-insert s entry w distinct_w within_w ∙ ap (λ r. insert w (place_of n.parent n.id r) entry) (sym in_order) in
+    walk-new s n.id (node_of n) well is (IsAbsent-entries s n.id new) (childless s n.id (no_parent s n.id tree new)) ∙ among-insert s entry w distinct_w within_w ∙ ap (λ r. insert w (place_of n.parent n.id r) entry) (sym in_order) in
     let fresh : set.contains s.del n.id ≡ false = set.contains-from_list id_cmp-total (hidden_ids row) n.id ∙ no_hidden n.id row absent in
     let shown : element_of (grown s n) entry ≡ n = λ j. record { id = n.id; parent = n.parent; ch = n.ch; hidden = mark_new s n fresh j } in
     sym (ap (each (element_of (grown s n))) walked ∙ each-insert (element_of (grown s n)) w i entry

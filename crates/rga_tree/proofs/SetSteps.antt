@@ -13,14 +13,14 @@ use Rattle.bg_types.specs.declared.op.Place.{Place}
 use Rattle.bg_types.specs.declared.op.Place.TheVariants.{Root, After}
 use Rattle.bg_types.specs.declared.op.OpView.{OpView}
 use Rattle.bg_types.specs.declared.op.OpView.TheVariants.{Insert, Erase}
-use Rattle.bg_types.proofs.Interface.{id_cmp-total, same_id-is, same_id-itself, none_of}
+use Rattle.bg_types.proofs.Interface.{id_cmp-total, same_id-is, same_id-itself}
 use Rattle.rga_tree.specs.declared.element.Element.{Element}
 use Rattle.rga_tree.specs.Walk.{walk}
 use Rattle.rga_tree.specs.TextOf.{is_erased}
 use Rattle.rga_tree.specs.Tree.{stands_in, IsTree, OnlyErasesPlaced}
 use Rattle.rga_tree.specs.Elements.{with_element}
-use Rattle.rga_tree.proofs.WalkAmong.{walk_among, among, walk-with_new}
-use Rattle.rga_tree.proofs.Entries.{entries_of, absent_of, low_of, Rises-entries, AreWellFounded-entries, IsChildless-entries}
+use Rattle.rga_tree.proofs.WalkAmong.{IsChildless, walk_among, among, walk-with_new}
+use Rattle.rga_tree.proofs.Entries.{IsAbsent, entries_of, low_of, Rises-entries, AreWellFounded-entries}
 use Rattle.rga_tree.proofs.Depth.{walk-among}
 
 abbrev pub node_of : Element → Node
@@ -111,14 +111,13 @@ OnlyErasesPlaced-erase s id only stands q held =
 
 -- ---- the walk
 
--- the walk with one more leaf: after its parent, and after all greater ones that follow there
-pub walk-leaf : (s : OperationSet) (id : Identifier) (node : Node) → AllWellFormed s → IsTree s → IsWellFormed (Insert id node.parent node.ch) → map.contains_key s.ins id ≡ false
+-- the walk with one more insertion, which is no parent: after its own parent, and after all greater ones that follow there
+pub walk-new : (s : OperationSet) (id : Identifier) (node : Node) → AllWellFormed s → IsWellFormed (Insert id node.parent node.ch) → IsAbsent id (entries_of s) → IsChildless id (entries_of s)
     → walk (with_operation s (Insert id node.parent node.ch)) Root ≡ among (id, node) Root (walk s Root)
-walk-leaf s id node well tree is new =
+walk-new s id node well is absent childless =
     walk-among (with_operation s (Insert id node.parent node.ch)) Root (AllWellFormed-with s (Insert id node.parent node.ch) well is)
     ∙ ap (λ l. walk_among l Root) (map.entries-insert id_cmp-total s.ins id node)
-    ∙ walk-with_new (id, node) (entries_of s) Root (Rises-entries s) (AreWellFounded-entries s well) (IsChildless-entries s id tree new) (low_of node.parent id is.1)
-    (absent_of id (entries_of s) (sym (map.get-entries s.ins id) ∙ none_of (map.get s.ins id) new))
+    ∙ walk-with_new (id, node) (entries_of s) Root (Rises-entries s) (AreWellFounded-entries s well) childless (low_of node.parent id is.1) absent
     ∙ ap (among (id, node) Root) (sym (walk-among s Root well))
 
 -- ---- the marks

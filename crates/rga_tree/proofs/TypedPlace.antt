@@ -17,13 +17,12 @@ use Rattle.bg_types.specs.declared.op.OpView.TheVariants.{Insert}
 use Rattle.bg_types.proofs.Interface.{id_cmp-total, same_id-itself, next-above}
 use Rattle.rga_tree.specs.Walk.{same_place, walk, walked_ids}
 use Rattle.rga_tree.specs.Order.{Precedes, StandsBetween}
-use Rattle.rga_tree.proofs.WalkAmong.{Entry, IsChildless, walk_among, skip, below, among, walk-with_new}
-use Rattle.rga_tree.proofs.Entries.{IsAbsent, entries_of, all_entries, low_of, Rises-entries, AreWellFounded-entries}
-use Rattle.rga_tree.proofs.Depth.{walk-among}
-use Rattle.rga_tree.proofs.SetSteps.{AllWellFormed-with, same_id-swap}
+use Rattle.rga_tree.proofs.WalkAmong.{Entry, IsChildless, skip, below, among}
+use Rattle.rga_tree.proofs.Entries.{IsAbsent, entries_of, all_entries}
+use Rattle.rga_tree.proofs.SetSteps.{same_id-swap, walk-new}
 use Rattle.rga_tree.proofs.RowPlaces.{AreDistinct, below_absent}
 use Rattle.rga_tree.proofs.AttachedWalk.{all_held, all_weaker_by}
-use Rattle.rga_tree.proofs.WalkDistinct.{AreDistinct-walk}
+use Rattle.rga_tree.proofs.WalkDistinct.{AreDistinct-walked}
 use Rattle.rga_tree.proofs.TreeAttached.{all_last}
 use Rattle.rga_tree.proofs.Lines.{Ids, head_is, tail_is}
 
@@ -88,17 +87,10 @@ module _ (s : OperationSet) (well : AllWellFormed s) (id : Identifier) (node : N
 
   walk-among_new : walk t Root ≡ among n Root (walk s Root)
   walk-among_new =
-      walk-among t Root (AllWellFormed-with s (Insert id node.parent node.ch) well formed)
-      ∙ ap (λ l. walk_among l Root) (map.entries-insert id_cmp-total s.ins id node)
-      ∙ walk-with_new n (entries_of s) Root (Rises-entries s) (AreWellFounded-entries s well) childless (low_of node.parent id formed.1)
-      (all_entries s (λ e. same_id id e.0 ≡ false) (λ e held. ap is_eq (greater e held)))
-      ∙ ap (among n Root) (sym (walk-among s Root well))
+      walk-new s id node well formed (all_entries s (λ e. same_id id e.0 ≡ false) (λ e held. ap is_eq (greater e held))) childless
 
   lower : AreLower id (walk s Root)
   lower = all_weaker_by (λ e. map.get s.ins e.0 ≡ Some e.1) (λ e. is_lt (id_cmp id e.0) ≡ false) (walk s Root) (λ e held. ap is_lt (greater e held)) (all_held s (map.len s.ins) Root)
-
-  distinct : AreDistinct (walk s Root)
-  distinct = subst AreDistinct (sym (walk-among s Root well)) (AreDistinct-walk (entries_of s) Root (Rises-entries s) (AreWellFounded-entries s well))
 
   pub walk-typed_first : node.parent ≡ Root → walk t Root ≡ n ∷ walk s Root
   walk-typed_first at =
@@ -107,7 +99,7 @@ module _ (s : OperationSet) (well : AllWellFormed s) (id : Identifier) (node : N
   pub walk-typed_behind : (front back : List Entry) (parent : Entry) → node.parent ≡ After parent.0 → walk s Root ≡ front ++ parent ∷ back → walk t Root ≡ front ++ parent ∷ n ∷ back
   walk-typed_behind front back parent at split =
       walk-among_new ∙ ap (λ p. cond (same_place p Root) (skip n (walk s Root)) (below p n (walk s Root))) at ∙ ap (below (After parent.0) n) split
-      ∙ below_at n parent front back (subst AreDistinct split distinct)
+      ∙ below_at n parent front back (subst AreDistinct split (AreDistinct-walked s well))
       ∙ ap (λ r. front ++ parent ∷ r) (skip_none n back (all_last (λ e. is_lt (id_cmp id e.0) ≡ false) front (parent ∷ back) (subst (AreLower id) split lower)).1)
 
   pub StandsBetween-typed : (a b : Identifier) → node.parent ≡ After a → Precedes s a b → StandsBetween t a id b

@@ -84,6 +84,9 @@ AreDistinct-walk (x ∷ rest) q rises founded =
       | false ↦ λ _. AreDistinct-append w [] distinct_w tt (all_weaker (λ e. id_cmp x.0 e.0 ≡ Less) (λ a. IsAbsent a.0 []) (λ a h. tt) w above_w)
     ] refl
 
+pub AreDistinct-walked : (s : OperationSet) → AllWellFormed s → AreDistinct (walk s Root)
+AreDistinct-walked s well = subst AreDistinct (sym (walk-among s Root well)) (AreDistinct-walk (entries_of s) Root (Rises-entries s) (AreWellFounded-entries s well))
+
 IsDistinct-ids : (es : List Entry) → AreDistinct es → IsDistinct same_id (each (λ e. e.0) es)
 unfolding IsDistinct
 IsDistinct-ids [] h = tt
@@ -93,4 +96,4 @@ IsDistinct-ids (e ∷ es) h = (others es h.0, IsDistinct-ids es h.1) where
   others (x ∷ es) h = (h.0, others es h.1)
 
 pub IsDistinct-walked : (s : OperationSet) → AllWellFormed s → IsDistinct same_id (walked_ids s)
-IsDistinct-walked s well = IsDistinct-ids (walk s Root) (subst AreDistinct (sym (walk-among s Root well)) (AreDistinct-walk (entries_of s) Root (Rises-entries s) (AreWellFounded-entries s well)))
+IsDistinct-walked s well = IsDistinct-ids (walk s Root) (AreDistinct-walked s well)
