@@ -9,9 +9,8 @@ use Rattle.bg_types.specs.Identifier.{Identifier, id_cmp}
 use Rattle.bg_types.proofs.Interface.{id_cmp-total}
 use Rattle.rga_tree.specs.declared.element.Element.{Element}
 use Rattle.rga_sequence.specs.Blocks.{FallsFrom}
-use Rattle.rga_sequence.proofs.Passing.{is_greater}
 use Rattle.rga_sequence.proofs.Shown.{hidden_at}
-use Rattle.rga_tree.proofs.Interface.{less_of}
+use Rattle.rga_tree.proofs.Interface.{less_of, is_greater}
 
 from_before : (at from to k : ℕ) → from ≤ to → (at < to → from < to) → to ≤ k → at < k → from ≤ k - 1
 from_before at from to k low shifted there less = by_shift (nat_lt at to) refl where

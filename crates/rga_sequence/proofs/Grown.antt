@@ -1,34 +1,20 @@
 -- A block with one more element.
-use Rattle.std.proofs.Common.{◌≡◌, ℕ, ◌≤◌, ◌+◌, ◌||◌, Bool, true, false, cond, not, List, [], ◌∷◌, ◌++◌, length, take, drop, refl, ap, ◌∙◌, arith}
-use Rattle.std.specs.Prelude.{count_by, insert}
+use Rattle.std.proofs.Common.{◌≡◌, ℕ, ◌≤◌, ◌||◌, Bool, true, false, cond, not, List, [], ◌∷◌, ◌++◌, length, take, drop, refl, ap, ◌∙◌, arith}
+use Rattle.std.specs.Prelude.{insert}
 use Rattle.std.specs.Ordering.{is_lt}
 use Rattle.std.specs.List.{list_all, list_any}
 use Rattle.std.proofs.lemmas.List.{take-append-drop}
-use Rattle.std.proofs.lemmas.List.Sums.{length-filter, sum_by-insert, count_by-le-length}
+use Rattle.std.proofs.lemmas.List.Sums.{count_by-le-length}
 use Rattle.bg_types.specs.Identifier.{Identifier, id_cmp, same_id}
 use Rattle.bg_types.proofs.Interface.{same_id-itself}
 use Rattle.rga_tree.specs.declared.element.Element.{Element}
+use Rattle.rga_tree.proofs.Interface.{seen_by}
 use Rattle.rga_sequence.specs.Blocks.{seen, none_below, is_least}
 use Rattle.rga_sequence.proofs.Least.{lower, not_itself}
 use Rattle.std.proofs.lemmas.Bool.{and_from, and_parts}
 
--- an element counts as one, unless it is hidden
-pub seen_by : (es : List Element) → seen es ≡ count_by (λ e. not e.hidden) es
-seen_by es = length-filter (λ (e : Element). not e.hidden) es
-
-pub shown_weight : (h : Bool) → cond (not h) 1 0 ≡ cond h 0 1
-shown_weight true = refl
-shown_weight false = refl
-
-pub seen-insert : (es : List Element) (i : ℕ) (n : Element) → seen (insert es i n) ≡ seen es + cond n.hidden 0 1
-seen-insert es i n = omega (arith, seen_by (insert es i n), seen_by es, sum_by-insert (λ (e : Element). cond (not e.hidden) 1 0) es i n, shown_weight n.hidden)
-
 pub seen_le : (es : List Element) → seen es ≤ length es
 seen_le es = omega (arith, seen_by es, count_by-le-length (λ (e : Element). not e.hidden) es)
-
-pub weight_le : (h : Bool) → cond h 0 1 ≤ 1
-weight_le true = omega arith
-weight_le false = omega arith
 
 pub all_with : (p : Element → Bool) (l r : List Element) (n : Element) → p n ≡ true → list_all p (l ++ r) ≡ true → list_all p (l ++ n ∷ r) ≡ true
 all_with p [] r n here rest = and_from (p n) (list_all p r) here rest

@@ -1,14 +1,15 @@
 -- Which identifiers stand in blocks, and where they are at home.
-use Rattle.std.proofs.Common.{◌≡◌, ℕ, zero, suc, ◌<◌, ◌+◌, ◌&&◌, ◌||◌, Bool, true, false, cond, not, List, [], ◌∷◌, ◌++◌, length, take, drop, get_or, Some, None, refl, sym, ap, subst, ◌∙◌, zero-add, length-append, arith}
-use Rattle.std.specs.Prelude.{insert, is_some, slice_get}
-use Rattle.std.specs.List.{list_any, prefix_len, AllByRecursion, find as find_in}
+use Rattle.std.proofs.Common.{◌≡◌, ℕ, zero, suc, ◌<◌, ◌+◌, ◌&&◌, ◌||◌, Bool, true, false, cond, not, List, [], ◌∷◌, ◌++◌, length, take, drop, get_or, Some, refl, sym, ap, subst, ◌∙◌, arith}
+use Rattle.std.specs.Prelude.{insert, is_some}
+use Rattle.std.specs.List.{list_any, AllByRecursion}
 use Rattle.std.proofs.lemmas.List.{take-append-drop}
 use Rattle.std.proofs.lemmas.List.Folds.{list_any-append}
 use Rattle.bg_types.specs.Identifier.{Identifier, same_id}
 use Rattle.bg_types.proofs.Interface.{same_id-is, same_id-itself}
 use Rattle.rga_tree.specs.declared.element.Element.{Element}
 use Rattle.rga_tree.specs.Row.{ids_of, is_distinct}
-use Rattle.rga_sequence.specs.Blocks.{joined, offset}
+use Rattle.rga_tree.proofs.Interface.{until}
+use Rattle.rga_sequence.specs.Blocks.{joined}
 use Rattle.rga_sequence.specs.BlockRows.{has, home_of}
 use Rattle.rga_sequence.proofs.Split.{AreApart, AreAllApart}
 use Rattle.std.proofs.lemmas.Bool.{and_parts, or_parts, or_left, or_right}
@@ -115,41 +116,6 @@ home-first (x ∷ xs) (m ∷ ns) q n h = by_test (λ k. home-first xs ns q n k) 
 
 -- ---- how many stand before the one with an identifier
 
-abbrev pub until : Identifier → List Element → ℕ
-until q es = prefix_len (λ e. not (same_id q e.id)) es
-
-pub until_none : (q : Identifier) (es : List Element) → has q es ≡ false → until q es ≡ length es
-until_none q [] h = refl
-until_none q (e ∷ es) h =
-    let p = or_parts (same_id q e.id) (has q es) h in
-    let rest = until_none q es p.1 in
-    ap (λ b. cond (not b) (1 + until q es) 0) p.0 ∙ omega (arith, rest)
-
-pub until_some : (q : Identifier) (es : List Element) → has q es ≡ true → until q es < length es
-until_some q [] h = absurd cc
-until_some q (e ∷ es) h =
-    let rest = until_some q es in
-    elim (same_id q e.id) as (λ b. (b || has q es) ≡ true → cond (not b) (1 + until q es) 0 < length (e ∷ es)) [
-      | true ↦ λ _. omega arith
-      | false ↦ λ h. omega (arith, rest h)
-    ] h
-
-until-past : (q : Identifier) (x y : List Element) → has q x ≡ false → until q (x ++ y) ≡ length x + until q y
-until-past q [] y h = sym (zero-add (until q y))
-until-past q (e ∷ x) y h =
-    let p = or_parts (same_id q e.id) (has q x) h in
-    let rest = until-past q x y p.1 in
-    ap (λ b. cond (not b) (1 + until q (x ++ y)) 0) p.0 ∙ omega (arith, rest)
-
-until-in : (q : Identifier) (x y : List Element) → has q x ≡ true → until q (x ++ y) ≡ until q x
-until-in q [] y h = absurd cc
-until-in q (e ∷ x) y h =
-    let rest = until-in q x y in
-    elim (same_id q e.id) as (λ b. (b || has q x) ≡ true → cond (not b) (1 + until q (x ++ y)) 0 ≡ cond (not b) (1 + until q x) 0) [
-      | true ↦ λ _. refl
-      | false ↦ λ h. ap (λ n. 1 + n) (rest h)
-    ] h
-
 pub has-there : (es : List Element) (q : Identifier) (i : ℕ) (d : Element) → i < length es → same_id q (get_or es i d).id ≡ true → has q es ≡ true
 has-there [] q i d h is = absurd (omega arith)
 has-there (e ∷ es) q zero d h is = or_left (same_id q e.id) (has q es) is
@@ -170,30 +136,3 @@ until-there q (e ∷ es) (suc i) d distinct h is =
           let both : not true ≡ true = ap not (sym again ∙ sym (any_ids e.id es)) ∙ none in
           absurd cc
       by_test false same later none rest = omega (arith, rest)
-
--- it stands in the first block that has it
-pub until-first : (xs : List (List Element)) (p : ℕ) (q : Identifier) → p < length xs → has q (get_or xs p []) ≡ true → has q (joined (take p xs)) ≡ false
-    → offset xs p (until q (get_or xs p [])) ≡ until q (joined xs)
-until-first [] p q there inside before = absurd (omega arith)
-until-first (x ∷ xs) zero q there inside before = zero-add (until q x) ∙ sym (until-in q x (joined xs) inside)
-until-first (x ∷ xs) (suc p) q there inside before =
-    let parts = or_parts (has q x) (has q (joined (take p xs))) (sym (list_any-append (λ e. same_id q e.id) x (joined (take p xs))) ∙ before) in
-    let rest = until-first xs p q (omega arith) inside parts.1 in
-    omega (arith, until-past q x (joined xs) parts.0, rest, length-append x (joined (take p xs)))
-
--- what stands there
-pub find-until : (q : Identifier) (es : List Element) → has q es ≡ true → find_in (λ e. same_id q e.id) es ≡ slice_get es (until q es)
-find-until q [] h = absurd cc
-find-until q (e ∷ es) h =
-    let rest = find-until q es in
-    let s : 1 + until q es ≡ suc (until q es) = omega arith in
-    elim (same_id q e.id) as (λ b. (b || has q es) ≡ true → cond b (Some e) (find_in (λ e. same_id q e.id) es) ≡ slice_get (e ∷ es) (cond (not b) (1 + until q es) 0)) [
-      | true ↦ λ _. refl
-      | false ↦ λ h. rest h ∙ ap (slice_get (e ∷ es)) (sym s)
-    ] h
-
-pub find_none : (q : Identifier) (es : List Element) → has q es ≡ false → find_in (λ e. same_id q e.id) es ≡ None
-find_none q [] h = refl
-find_none q (e ∷ es) h =
-    let p = or_parts (same_id q e.id) (has q es) h in
-    ap (λ b. cond b (Some e) (find_in (λ e. same_id q e.id) es)) p.0 ∙ find_none q es p.1

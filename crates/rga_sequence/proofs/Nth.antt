@@ -7,7 +7,7 @@ use Rattle.rga_tree.specs.declared.element.Element.{Element}
 use Rattle.rga_sequence.specs.Blocks.{seen, seen_all}
 use Rattle.rga_sequence.proofs.Grown.{seen_le}
 use Rattle.rga_sequence.proofs.Seen.{not_all, seen-more}
-use Rattle.rga_sequence.proofs.Spots.{seen-append}
+use Rattle.rga_tree.proofs.Interface.{seen-append}
 
 pub seen-add : (es : List Element) (at n : ℕ) → seen (take (at + n) es) ≡ seen (take at es) + seen (take n (drop at es))
 seen-add es at n = ap seen (take-add at n es) ∙ seen-append (take at es) (take n (drop at es))

@@ -1,6 +1,6 @@
 -- The place after all greater elements, with whole blocks passed.
 use Rattle.std.proofs.Common.{◌≡◌, ℕ, suc, ◌<◌, ◌≤◌, ◌+◌, ◌||◌, Bool, true, false, cond, not, List, [], ◌∷◌, ◌++◌, length, take, drop, get_or, refl, sym, ap, subst, ◌∙◌, zero-add, length-append, length-drop, ◌-◌, arith}
-use Rattle.std.proofs.lemmas.List.{length-map, length-take-le, drop-map, drop_all, get_or-drop, get_or-map, map-append, take-map, take-append-drop}
+use Rattle.std.proofs.lemmas.List.{length-map, drop-map, drop_all, get_or-drop, get_or-map, map-append, take-map}
 use Rattle.std.proofs.lemmas.Bool.{ltb-true, ltb-false, and_parts}
 use Rattle.std.specs.Prelude.{nat_lt, insert}
 use Rattle.std.specs.declared.cmp.Ordering.{Ordering}
@@ -13,11 +13,7 @@ use Rattle.bg_types.proofs.Interface.{id_cmp-total, id_cmp-exact, same_id-is}
 use Rattle.rga_sequence.specs.declared.block.Block.{Block}
 use Rattle.rga_sequence.specs.BlockRows.{items_of}
 use Rattle.rga_sequence.specs.Blocks.{joined, offset, sought}
-use Rattle.rga_sequence.proofs.Joined.{joined-suc, joined-add, drop_joined}
-use Rattle.rga_tree.proofs.Interface.{less_of, turned}
-
-abbrev pub is_greater : Identifier → Element → Bool
-is_greater id e = is_lt (id_cmp id e.id)
+use Rattle.rga_tree.proofs.Interface.{less_of, turned, joined-suc, joined-add, drop_joined, is_greater, pre_all, pre_stop}
 
 abbrev pub is_passed : Identifier → Block → Bool
 is_passed id b = is_lt (id_cmp id b.least)
@@ -54,13 +50,6 @@ stops id m (e ∷ es) r ge h = by_least (λ any. stops id m es r ge any) (same_i
   by_least rest true is h = here (is_greater id e) refl (ap (λ x. is_lt (id_cmp id x)) (sym (same_id-is m e.id is)) ∙ ge)
   by_least rest false is h = there rest (is_greater id e) h
 
-pub pre_all : {X : Type 0} (p : X → Bool) (xs ys : List X) → prefix_len p xs ≡ length xs → prefix_len p (xs ++ ys) ≡ length xs + prefix_len p ys
-pre_all {X} p [] ys h = sym (zero-add (prefix_len p ys))
-pre_all {X} p (x ∷ xs) ys h = by_test (λ e. pre_all p xs ys e) (p x) h where
-  by_test : (prefix_len p xs ≡ length xs → prefix_len p (xs ++ ys) ≡ length xs + prefix_len p ys) → (b : Bool) → cond b (1 + prefix_len p xs) 0 ≡ suc (length xs) → cond b (1 + prefix_len p (xs ++ ys)) 0 ≡ suc (length xs) + prefix_len p ys
-  by_test rest true h = omega (arith, rest (omega arith))
-  by_test rest false h = absurd (omega arith)
-
 -- whole blocks are passed
 passing : (id : Identifier) (bs : List Block) → let k = prefix_len (is_passed id) bs in
     prefix_len (is_greater id) (joined (items_of bs)) ≡ length (joined (take k (items_of bs))) + prefix_len (is_greater id) (joined (items_of (drop k bs)))
@@ -93,25 +82,6 @@ stopping id (b ∷ bs) h = by_test (λ few. stopping id bs few) (is_passed id b)
       let e : 1 + j ≡ suc j = omega arith in
       let few : j < length bs = omega arith in
       rw e (rest few)
-
-pub pre_stop : {X : Type 0} (p : X → Bool) (xs ys : List X) → prefix_len p xs < length xs → prefix_len p (xs ++ ys) ≡ prefix_len p xs
-pre_stop {X} p [] ys h = absurd (omega arith)
-pre_stop {X} p (x ∷ xs) ys h =
-    let rest = pre_stop p xs ys in
-    elim (p x) as (λ b. cond b (1 + prefix_len p xs) 0 < suc (length xs) → cond b (1 + prefix_len p (xs ++ ys)) 0 ≡ cond b (1 + prefix_len p xs) 0) [
-      | true ↦ λ few. ap (λ n. 1 + n) (rest (omega arith))
-      | false ↦ λ _. refl
-    ] h
-
--- a row whose first n items are counted first
-pub stops_early : {X : Type 0} (p : X → Bool) (xs : List X) (n : ℕ) → n ≤ length xs → prefix_len p (take n xs) < n → prefix_len p xs ≡ prefix_len p (take n xs)
-stops_early {X} p xs n many few =
-    ap (prefix_len p) (sym (take-append-drop n xs)) ∙ pre_stop p (take n xs) (drop n xs) (omega (arith, few, length-take-le n xs many))
-
-pub goes_on : {X : Type 0} (p : X → Bool) (xs : List X) (n : ℕ) → n ≤ length xs → prefix_len p (take n xs) ≡ n → prefix_len p xs ≡ n + prefix_len p (drop n xs)
-goes_on {X} p xs n many whole =
-    let len = length-take-le n xs many in
-    ap (prefix_len p) (sym (take-append-drop n xs)) ∙ pre_all p (take n xs) (drop n xs) (whole ∙ sym len) ∙ ap (λ m. m + prefix_len p (drop n xs)) len
 
 -- it ends in the block
 pub lands_here : (id : Identifier) (xs : List (List Element)) (p j : ℕ) → p < length xs → j ≤ length (get_or xs p [])

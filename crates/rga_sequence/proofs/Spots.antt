@@ -1,19 +1,16 @@
 -- Elements of the row by their blocks.
-use Rattle.std.proofs.Common.{◌≡◌, ℕ, zero, suc, ◌<◌, ◌≤◌, ◌+◌, Bool, not, List, [], ◌∷◌, ◌++◌, length, take, get_or, Option, Some, None, refl, sym, ap, subst, ◌∙◌, zero-add, length-append, arith}
-use Rattle.std.specs.Prelude.{filter, set, slice_get, IsSome}
+use Rattle.std.proofs.Common.{◌≡◌, ℕ, zero, suc, ◌<◌, ◌≤◌, ◌+◌, List, [], ◌∷◌, length, take, get_or, Option, Some, None, true, false, refl, sym, ap, subst, ◌∙◌, length-append, arith}
+use Rattle.std.specs.Prelude.{set, slice_get, IsSome}
 use Rattle.std.specs.Option.{IfNone}
-use Rattle.std.proofs.lemmas.List.{set-append_left}
-use Rattle.std.proofs.lemmas.List.Concat.{get_or-flat_map}
-use Rattle.std.proofs.lemmas.List.Elements.{filter-append}
-use Rattle.std.proofs.lemmas.List.Folds.{length-flat_map-take}
 use Rattle.std.proofs.lemmas.Option.{get_or_from_slice_get, slice_get_within}
 use Rattle.rga_tree.specs.declared.element.Element.{Element}
+use Rattle.rga_tree.proofs.Interface.{until, until_none, offset_less, get_or_joined, seen-append}
 use Rattle.rga_sequence.specs.Blocks.{seen, joined, offset}
 use Rattle.rga_sequence.specs.declared.block.Block.{Block}
 use Rattle.rga_sequence.specs.BlockRows.{items_of, has, home_of}
 use Rattle.rga_tree.specs.Row.{ids_of, is_distinct}
 use Rattle.bg_types.specs.Identifier.{Identifier, same_id}
-use Rattle.rga_sequence.proofs.Members.{IsFirst, home-first, until, until_none, until-there, has-there}
+use Rattle.rga_sequence.proofs.Members.{IsFirst, home-first, until-there, has-there}
 use Rattle.rga_sequence.proofs.Numbers.{length-items}
 use Rattle.rga_sequence.proofs.Passing.{items_there}
 
@@ -35,44 +32,6 @@ pub some_spot : (o : Option (ℕ × ℕ)) (q : Identifier) (es : List Element) �
 some_spot None q es absent there = let all = until_none q es absent in absurd (omega arith)
 some_spot (Some s) q es absent there = refl
 
--- ---- the element at a place of the row
-
-pub get_or_joined : (xs : List (List Element)) (p j : ℕ) (d : Element) → p < length xs → j < length (get_or xs p []) → get_or (joined xs) (offset xs p j) d ≡ get_or (get_or xs p []) j d
-get_or_joined xs p j d there within = get_or-flat_map (λ (x : List Element). x) xs p j [] d there within
-
-slice_get-past : (x y : List Element) (n : ℕ) → slice_get (x ++ y) (length x + n) ≡ slice_get y n
-slice_get-past [] y n = rw (zero-add n) refl
-slice_get-past (e ∷ x) y n = let s : suc (length x) + n ≡ suc (length x + n) = omega arith in rw s (slice_get-past x y n)
-
-slice_get-in : (x y : List Element) (n : ℕ) → n < length x → slice_get (x ++ y) n ≡ slice_get x n
-slice_get-in [] y n h = absurd (omega arith)
-slice_get-in (e ∷ x) y zero h = refl
-slice_get-in (e ∷ x) y (suc n) h = slice_get-in x y n (omega arith)
-
-pub slice_get_joined : (xs : List (List Element)) (p j : ℕ) → p < length xs → j < length (get_or xs p []) → slice_get (joined xs) (offset xs p j) ≡ slice_get (get_or xs p []) j
-slice_get_joined [] p j there within = absurd (omega arith)
-slice_get_joined (x ∷ xs) zero j there within = rw (zero-add j) (slice_get-in x (joined xs) j within)
-slice_get_joined (x ∷ xs) (suc p) j there within =
-    let e : length (x ++ joined (take p xs)) + j ≡ length x + offset xs p j = omega (arith, length-append x (joined (take p xs))) in
-    rw e (slice_get-past x (joined xs) (offset xs p j) ∙ slice_get_joined xs p j (omega arith) within)
-
-set-past : (x y : List Element) (n : ℕ) (v : Element) → set (x ++ y) (length x + n) v ≡ x ++ set y n v
-set-past [] y n v = rw (zero-add n) refl
-set-past (e ∷ x) y n v = let s : suc (length x) + n ≡ suc (length x + n) = omega arith in rw s (ap (λ r. e ∷ r) (set-past x y n v))
-
--- a write in a block is a write in the row
-pub set_joined : (xs : List (List Element)) (p j : ℕ) (v : Element) → p < length xs → j < length (get_or xs p []) → joined (set xs p (set (get_or xs p []) j v)) ≡ set (joined xs) (offset xs p j) v
-set_joined [] p j v there within = absurd (omega arith)
-set_joined (x ∷ xs) zero j v there within = rw (zero-add j) (sym (set-append_left x (joined xs) j v within))
-set_joined (x ∷ xs) (suc p) j v there within =
-    let e : length (x ++ joined (take p xs)) + j ≡ length x + offset xs p j = omega (arith, length-append x (joined (take p xs))) in
-    rw e (ap (λ r. x ++ r) (set_joined xs p j v (omega arith) within) ∙ sym (set-past x (joined xs) (offset xs p j) v))
-
-pub seen-append : (x y : List Element) → seen (x ++ y) ≡ seen x + seen y
-seen-append x y =
-    let shown : Element → Bool = λ e. not e.hidden in
-    ap length (filter-append shown x y) ∙ length-append (filter shown x) (filter shown y)
-
 pub seen_set : (xs : List (List Element)) (p : ℕ) (y : List Element) → p < length xs → seen (joined (set xs p y)) + seen (get_or xs p []) ≡ seen (joined xs) + seen y
 seen_set [] p y there = absurd (omega arith)
 seen_set (x ∷ xs) zero y there = omega (arith, seen-append y (joined xs), seen-append x (joined xs))
@@ -86,9 +45,6 @@ more_blocks (x ∷ y ∷ xs) zero k j there place within = omega arith
 more_blocks (x ∷ xs) (suc b) k j there place within =
     let rest = more_blocks xs b k (length (joined (take (suc b) xs)) + k) (omega arith) refl (omega (arith, length-append x (joined (take (suc b) xs)), length-append x (joined xs))) in
     omega arith
-
-pub offset_less : (xs : List (List Element)) (p j : ℕ) → p < length xs → j < length (get_or xs p []) → offset xs p j < length (joined xs)
-offset_less xs p j there within = omega (arith, length-flat_map-take (λ (x : List Element). x) xs p [] there, within)
 
 -- ---- an element that was read in its block
 

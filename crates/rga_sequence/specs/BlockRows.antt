@@ -1,8 +1,8 @@
 -- The elements of the blocks of a row, and where identifiers are at home in it.
 use Rattle.std.specs.Prelude.{◌≡◌, ◌<◌, ℕ, List, [], ◌∷◌, Option, Some, None, Bool, true, ◌&&◌, length, nat_lt, map as each, if◌then◌else◌}
-use Rattle.std.specs.List.{list_any}
-use Rattle.bg_types.specs.Identifier.{Identifier, same_id}
+use Rattle.bg_types.specs.Identifier.{Identifier}
 use Rattle.rga_tree.specs.declared.element.Element.{Element}
+pub use Rattle.rga_tree.specs.Row.{has}
 use Rattle.rga_sequence.specs.declared.block.Block.{Block}
 
 abbrev pub items_of : List Block → List (List Element)
@@ -10,10 +10,6 @@ items_of bs = each (λ b. b.elements.items) bs
 
 abbrev pub numbers_of : List Block → List ℕ
 numbers_of bs = each (λ b. b.number) bs
-
--- an element has the identifier
-abbrev pub has : Identifier → List Element → Bool
-has q es = list_any (λ e. same_id q e.id) es
 
 -- the number of the block that has the identifier
 abbrev pub home_of : List (List Element) → List ℕ → Identifier → Option ℕ

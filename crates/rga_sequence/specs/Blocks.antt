@@ -1,19 +1,11 @@
 -- Rows of blocks of elements.
-use Rattle.std.specs.Prelude.{◌≡◌, ◌+◌, ◌<◌, ◌≤◌, ◌&&◌, ℕ, Bool, true, not, List, length, take, drop, get_or}
-use Rattle.std.specs.List.{list_all, list_any, flat_map, prefix_len}
+use Rattle.std.specs.Prelude.{◌≡◌, ◌+◌, ◌<◌, ◌≤◌, ◌&&◌, ℕ, Bool, true, not, List, length, drop, get_or}
+use Rattle.std.specs.List.{list_all, list_any, prefix_len}
 use Rattle.std.specs.Ordering.{is_lt}
 use Rattle.std.proofs.Props.{props}
 use Rattle.bg_types.specs.Identifier.{Identifier, id_cmp, same_id}
 use Rattle.rga_tree.specs.declared.element.Element.{Element}
-pub use Rattle.rga_tree.specs.Spot.{seen, seen_all, IsVisiblePlace}
-
--- the elements of all blocks, in order
-abbrev pub joined : List (List Element) → List Element
-joined bs = flat_map (λ b. b) bs
-
--- where element j of block b stands in the whole row
-abbrev pub offset : List (List Element) → ℕ → ℕ → ℕ
-offset bs b j = length (joined (take b bs)) + j
+pub use Rattle.rga_tree.specs.Spot.{seen, seen_all, IsVisiblePlace, joined, offset}
 
 -- where the first stands that isn't greater, from element j of block b on
 abbrev pub sought : Identifier → List (List Element) → ℕ → ℕ → ℕ

@@ -22,5 +22,9 @@ pub use Rattle.rga_tree.proofs.OneOrder.{filter_ids, Precedes-attached, Precedes
 pub use Rattle.rga_tree.proofs.Runs.{runs_at_one_place}
 pub use Rattle.rga_tree.proofs.TypedPlace.{walk-typed_behind, walk-typed_first, StandsBetween-typed}
 pub use Rattle.rga_tree.proofs.RunSteps.{later-more, later-none, later-apart, later-less, drawn, stands_behind, new_behind, IsUnderWay, begun, parent_behind, one_further, some_under_way, next_new, nothing_left}
-pub use Rattle.rga_tree.proofs.RunRows.{take-insert, drop-insert, run_of, put_in, put_in-cons, start_behind, formed_run, placing_run}
+pub use Rattle.rga_tree.proofs.RunRows.{take-insert, drop-insert, run_of, put_in, put_in-cons, start_behind, formed_run, place_in_row, placing_run}
 pub use Rattle.rga_tree.proofs.Texts.{bytes_of, bytes-hidden, bytes-visible}
+pub use Rattle.rga_tree.proofs.Joined.{joined-suc, joined-add, offset_less, get_or_joined, slice_get_joined, drop_joined, set_joined, insert_joined, split_joined, split_low, split_front, split_long}
+pub use Rattle.rga_tree.proofs.Until.{until, until_none, until_some, until-first, find-until, find_none, any_default}
+pub use Rattle.rga_tree.proofs.Counts.{seen_by, shown_weight, weight_le, seen-insert, seen-append, seen_all-joined, before_spot}
+pub use Rattle.rga_tree.proofs.Greater.{is_greater, pre_all, pre_stop, stops_early, goes_on}

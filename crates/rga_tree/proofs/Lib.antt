@@ -29,4 +29,8 @@ pub mod Siblings
 pub mod RunRows
 pub mod TypedPlace
 pub mod LeafWalk
+pub mod Joined
+pub mod Until
+pub mod Counts
+pub mod Greater
 pub mod Interface

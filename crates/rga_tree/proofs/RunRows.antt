@@ -21,6 +21,7 @@ use Rattle.rga_tree.specs.KeepsWalk.{KeepsWalk}
 use Rattle.rga_tree.specs.Run.{later, insertions, with_operations, AreNew}
 use Rattle.rga_tree.proofs.Entries.{IsAbsent}
 use Rattle.rga_tree.proofs.RowSets.{absent_row, absent_parts}
+use Rattle.rga_tree.proofs.Greater.{is_greater}
 use Rattle.rga_tree.proofs.Placing.{placing, start_within}
 use Rattle.rga_tree.proofs.Siblings.{less_of}
 use Rattle.rga_tree.proofs.RunSteps.{later-less, new_behind, next_new, stands_behind}
@@ -67,9 +68,6 @@ start_behind row e at new within =
     let here = found_at (take at row) (drop at row) e (absent_parts row at e.id (absent_row row e.id new)).0 in
     ap (λ k. k + 1) (here ∙ length-take-le at row within)
 
-abbrev greater : Identifier → Element → Bool
-greater id e = is_lt (id_cmp id e.id)
-
 -- what isn't greater than an identifier isn't greater than a later one
 not_later : (id q : Identifier) → is_lt (id_cmp id q) ≡ false → is_lt (id_cmp (later id 1) q) ≡ false
 not_later id q lower = by_test (is_lt (id_cmp (later id 1) q)) refl where
@@ -78,28 +76,28 @@ not_later id q lower = by_test (is_lt (id_cmp (later id 1) q)) refl where
   by_test false is = is
 
 -- behind those that are greater than it none is that is greater than the later one
-none_later : (id : Identifier) (es : List Element) → prefix_len (greater (later id 1)) (drop (prefix_len (greater id) es) es) ≡ 0
+none_later : (id : Identifier) (es : List Element) → prefix_len (is_greater (later id 1)) (drop (prefix_len (is_greater id) es) es) ≡ 0
 none_later id [] = refl
-none_later id (e ∷ es) = by_test (none_later id es) (greater id e) refl where
-  by_test : prefix_len (greater (later id 1)) (drop (prefix_len (greater id) es) es) ≡ 0 → (b : Bool) → greater id e ≡ b
-      → prefix_len (greater (later id 1)) (drop (cond (greater id e) (1 + prefix_len (greater id) es) 0) (e ∷ es)) ≡ 0
+none_later id (e ∷ es) = by_test (none_later id es) (is_greater id e) refl where
+  by_test : prefix_len (is_greater (later id 1)) (drop (prefix_len (is_greater id) es) es) ≡ 0 → (b : Bool) → is_greater id e ≡ b
+      → prefix_len (is_greater (later id 1)) (drop (cond (is_greater id e) (1 + prefix_len (is_greater id) es) 0) (e ∷ es)) ≡ 0
   by_test rest true is =
-      let one_more : 1 + prefix_len (greater id) es ≡ suc (prefix_len (greater id) es) = omega arith in
-      ap (λ b. prefix_len (greater (later id 1)) (drop (cond b (1 + prefix_len (greater id) es) 0) (e ∷ es))) is
-      ∙ ap (λ k. prefix_len (greater (later id 1)) (drop k (e ∷ es))) one_more ∙ rest
+      let one_more : 1 + prefix_len (is_greater id) es ≡ suc (prefix_len (is_greater id) es) = omega arith in
+      ap (λ b. prefix_len (is_greater (later id 1)) (drop (cond b (1 + prefix_len (is_greater id) es) 0) (e ∷ es))) is
+      ∙ ap (λ k. prefix_len (is_greater (later id 1)) (drop k (e ∷ es))) one_more ∙ rest
   by_test rest false is =
-      ap (λ b. prefix_len (greater (later id 1)) (drop (cond b (1 + prefix_len (greater id) es) 0) (e ∷ es))) is
-      ∙ ap (λ b. cond b (1 + prefix_len (greater (later id 1)) es) 0) (not_later id e.id is)
+      ap (λ b. prefix_len (is_greater (later id 1)) (drop (cond b (1 + prefix_len (is_greater id) es) 0) (e ∷ es))) is
+      ∙ ap (λ b. cond b (1 + prefix_len (is_greater (later id 1)) es) 0) (not_later id e.id is)
 
 pub place_behind : (row : List Element) (e : Element) (at : ℕ) → map.contains_key (operations_of row).ins e.id ≡ false → at ≡ place_of e.parent e.id row → at ≤ length row
     → place_of (After e.id) (later e.id 1) (insert row at e) ≡ at + 1
 place_behind row e at fresh at_is within =
     let new = insert row at e in
     let one_more : start_of (After e.id) new ≡ suc at = omega (arith, start_behind row e at fresh within) in
-    let rest : drop at row ≡ drop (prefix_len (greater e.id) (drop (start_of e.parent row) row)) (drop (start_of e.parent row) row) =
-    ap (λ k. drop k row) at_is ∙ sym (drop-drop (prefix_len (greater e.id) (drop (start_of e.parent row) row)) (start_of e.parent row) row) in
-    let none : prefix_len (greater (later e.id 1)) (drop at row) ≡ 0 = ap (prefix_len (greater (later e.id 1))) rest ∙ none_later e.id (drop (start_of e.parent row) row) in
-    ap (λ k. k + prefix_len (greater (later e.id 1)) (drop k new)) one_more ∙ ap (λ es. suc at + prefix_len (greater (later e.id 1)) es) (drop-insert row at e within) ∙ omega (arith, none)
+    let rest : drop at row ≡ drop (prefix_len (is_greater e.id) (drop (start_of e.parent row) row)) (drop (start_of e.parent row) row) =
+    ap (λ k. drop k row) at_is ∙ sym (drop-drop (prefix_len (is_greater e.id) (drop (start_of e.parent row) row)) (start_of e.parent row) row) in
+    let none : prefix_len (is_greater (later e.id 1)) (drop at row) ≡ 0 = ap (prefix_len (is_greater (later e.id 1))) rest ∙ none_later e.id (drop (start_of e.parent row) row) in
+    ap (λ k. k + prefix_len (is_greater (later e.id 1)) (drop k new)) one_more ∙ ap (λ es. suc at + prefix_len (is_greater (later e.id 1)) es) (drop-insert row at e within) ∙ omega (arith, none)
 
 -- ---- the whole run
 
@@ -111,10 +109,10 @@ formed_run (ch ∷ chs) id parent counter site fits follows counters all =
     let identifier : IsIdentifier id = record { counter_positive = counter; counter_fits = omega (arith, counters); site_positive = site; site_fits = fits } in
     ((identifier, follows, both.0), formed_run chs (later id 1) (After id) (omega (arith, counter)) site fits (identifier, omega arith) (omega (arith, counters)) both.1)
 
-place_in_row : (row : List Element) (id : Identifier) (parent : Place) → start_of parent row ≤ length row → place_of parent id row ≤ length row
-place_in_row row id parent within =
+pub place_in_row : (parent : Place) (id : Identifier) (row : List Element) → start_of parent row ≤ length row → place_of parent id row ≤ length row
+place_in_row parent id row within =
     let start = start_of parent row in
-    omega (arith, within, prefix_len-le-length (greater id) (drop start row), length-drop start row)
+    omega (arith, within, prefix_len-le-length (is_greater id) (drop start row), length-drop start row)
 
 pub placing_run : (chs : List ℕ) (row : List Element) (id : Identifier) (parent : Place) (at : ℕ) → KeepsWalk row → stands_in (operations_of row) parent ≡ true → AllByRecursion IsWellFormed (insertions id parent chs)
     → AreNew (operations_of row) id (length chs) → at ≡ place_of parent id row
@@ -126,7 +124,7 @@ placing_run (ch ∷ chs) row id parent at keeps stands formed new at_is =
     let e : Element = record { id = id; parent = parent; ch = ch; hidden = false } in
     let more = insert row at e in
     let start = start_within row parent stands in
-    let within : at ≤ length row = omega (arith, at_is, place_in_row row id parent start) in
+    let within : at ≤ length row = omega (arith, at_is, place_in_row parent id row start) in
     let fresh = next_new (operations_of row) id (suc (length chs)) (omega arith) new in
     let step = placing row more e at keeps stands formed.0 fresh start at_is refl in
     let rest = placing_run chs more (later id 1) (After id) (at + 1) step.0 (ap (λ (s : OperationSet). stands_in s (After id)) step.1 ∙ stands_behind (operations_of row) id parent ch) formed.1

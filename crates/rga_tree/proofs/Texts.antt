@@ -3,7 +3,6 @@ use Rattle.std.proofs.Common.{◌≡◌, ℕ, zero, suc, ◌+◌, ◌<◌, true,
 use Rattle.std.proofs.lemmas.List.{append-nil}
 use Rattle.std.proofs.Math.Seq.{take-length}
 use Rattle.std.specs.Prelude.{map as each, filter, encode_utf8, encode_utf8_all}
-use Rattle.std.specs.List.{flat_map}
 use Rattle.bg_types.specs.OperationSet.{OperationSet}
 use Rattle.bg_types.specs.declared.op.Place.TheVariants.{Root}
 use Rattle.rga_tree.specs.declared.element.Element.{Element}
@@ -11,6 +10,7 @@ use Rattle.rga_tree.specs.Walk.{walk}
 use Rattle.rga_tree.specs.TextOf.{is_erased, text}
 use Rattle.rga_tree.specs.Elements.{element_of, elements}
 use Rattle.rga_tree.specs.Row.{shown_of}
+use Rattle.rga_tree.specs.Spot.{joined}
 use Rattle.rga_tree.proofs.WalkAmong.{Entry}
 
 pub text-elements : (s : OperationSet) → text s ≡ shown_of (elements s)
@@ -68,10 +68,6 @@ shown-append (x ∷ xs) ys =
 
 pub bytes-append : (xs ys : List Element) → bytes_of (xs ++ ys) ≡ bytes_of xs ++ bytes_of ys
 bytes-append xs ys = ap encode_utf8_all (shown-append xs ys) ∙ encode-append (shown_of xs) (shown_of ys)
-
--- the elements of all parts
-abbrev pub joined : List (List Element) → List Element
-joined parts = flat_map (λ part. part) parts
 
 -- one more part
 bytes_next : (parts : List (List Element)) (p : ℕ) → bytes_of (joined (take (suc p) parts)) ≡ bytes_of (joined (take p parts)) ++ bytes_of (get_or parts p [])

@@ -1,7 +1,6 @@
 -- Where the visible elements of parts stand.
 use Rattle.std.proofs.Common.{◌≡◌, ℕ, zero, suc, ◌<◌, ◌+◌, true, false, cond, not, List, [], ◌∷◌, ◌++◌, length, take, drop, get_or, Some, refl, sym, ap, ◌∙◌, zero-add, arith}
 use Rattle.std.specs.Prelude.{filter, slice_get, map as each}
-use Rattle.std.specs.List.{flat_map}
 use Rattle.std.proofs.lemmas.List.{drop-map}
 use Rattle.std.proofs.lemmas.List.Filters.{length-filter_more}
 use Rattle.std.proofs.lemmas.Option.{get_or_from_slice_get, slice_get_within}
@@ -12,17 +11,14 @@ use Rattle.rga_tree.specs.Walk.{walk}
 use Rattle.rga_tree.specs.TextOf.{visible, visible_ids}
 use Rattle.rga_tree.specs.Elements.{element_of, elements}
 use Rattle.rga_tree.specs.Row.{shown_ids}
-use Rattle.rga_tree.specs.Spot.{seen, seen_all, IsVisiblePlace, from_spot}
+use Rattle.rga_tree.specs.Spot.{seen, seen_all, IsVisiblePlace, joined, from_spot}
 use Rattle.rga_tree.proofs.WalkAmong.{Entry}
 use Rattle.rga_tree.proofs.Seen.{filter_seen}
-
-abbrev joined : List (List Element) → List Element
-joined parts = flat_map (λ part. part) parts
 
 -- one more element
 pub seen-more : (es : List Element) (j : ℕ) (e : Element) → slice_get es j ≡ Some e → seen (take (j + 1) es) ≡ seen (take j es) + cond e.hidden 0 1
 seen-more es j e is =
-    let one : cond (not e.hidden) 1 0 ≡ cond e.hidden 0 1 = elim e.hidden as (λ h. cond (not h) 1 0 ≡ cond h 0 1) [ true ↦ refl | false ↦ refl ] in
+    let one : ◌≡◌ {A = ℕ} (cond (not e.hidden) 1 0) (cond e.hidden 0 1) = elim e.hidden as (λ h. ◌≡◌ {A = ℕ} (cond (not h) 1 0) (cond h 0 1)) [ true ↦ refl | false ↦ refl ] in
     length-filter_more (λ x. not x.hidden) es j e (slice_get_within es j e is)
     ∙ ap (λ (x : Element). seen (take j es) + cond (not x.hidden) 1 0) (get_or_from_slice_get es j e e is) ∙ ap (λ n. seen (take j es) + n) one
 

@@ -27,6 +27,10 @@ shown_of row = each (λ e. e.ch) (filter (λ e. not e.hidden) row)
 abbrev pub operations_of : List Element → OperationSet
 operations_of row = record { ins = map.from_entries (each entry_of row); del = set.from_list (hidden_ids row) }
 
+-- an element has the identifier
+abbrev pub has : Identifier → List Element → Bool
+has q row = list_any (λ e. same_id q e.id) row
+
 -- no identifier occurs twice
 abbrev pub is_distinct : List Identifier → Bool
 is_distinct [] = true

@@ -18,6 +18,14 @@ pub record IsVisiblePlace (parts : List (List Element)) (k p j : ℕ) (e : Eleme
   pub visible : e.hidden ≡ false
   pub before : seen_all (take p parts) + seen (take j (get_or parts p [])) ≡ k
 
+-- the elements of all parts, in order
+abbrev pub joined : List (List Element) → List Element
+joined parts = flat_map (λ part. part) parts
+
+-- where element j of part p stands among them
+abbrev pub offset : List (List Element) → ℕ → ℕ → ℕ
+offset parts p j = length (joined (take p parts)) + j
+
 -- the elements from element j of part p on: the rest of the part, and the parts behind it
 abbrev pub from_spot : List (List Element) → (p j : ℕ) → List Element
-from_spot parts p j = drop j (get_or parts p []) ++ flat_map (λ part. part) (drop (p + 1) parts)
+from_spot parts p j = drop j (get_or parts p []) ++ joined (drop (p + 1) parts)

@@ -2,7 +2,8 @@
 use Rattle.std.proofs.Common.{take, length, refl, arith}
 use Rattle.std.proofs.lemmas.List.{length-take-le}
 use Rattle.std.proofs.lemmas.Option.{slice_get_read}
-use Rattle.rga_sequence.proofs.Grown.{seen_le, weight_le}
+use Rattle.rga_tree.proofs.Interface.{weight_le}
+use Rattle.rga_sequence.proofs.Grown.{seen_le}
 use Rattle.rga_sequence.proofs.Seen.{seen-more}
 use Rattle.rga_sequence.proofs.block.count_visible.Goals as goal
 

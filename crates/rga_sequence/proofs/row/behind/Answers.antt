@@ -4,7 +4,7 @@ use Rattle.bg_types.specs.declared.op.Place.{Place}
 use Rattle.rga_tree.specs.Row.{start_of}
 use Rattle.rga_sequence.specs.Few.{few_items}
 use Rattle.rga_sequence.specs.Indexed.{elements_in}
-use Rattle.rga_sequence.proofs.Members.{until}
+use Rattle.rga_tree.proofs.Interface.{until}
 use Rattle.rga_sequence.proofs.Spots.{some_spot}
 use Rattle.rga_sequence.proofs.row.behind.Goals as goal
 

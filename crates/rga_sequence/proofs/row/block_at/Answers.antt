@@ -2,7 +2,7 @@
 use Rattle.std.proofs.Common.{◌≡◌, ◌+◌, ◌-◌, [], suc, ap, length, take, get_or, arith}
 use Rattle.rga_sequence.specs.Blocks.{joined, offset}
 use Rattle.rga_sequence.specs.BlockRows.{items_of}
-use Rattle.rga_sequence.proofs.Joined.{joined-suc}
+use Rattle.rga_tree.proofs.Interface.{joined-suc}
 use Rattle.rga_sequence.proofs.Passing.{items_there}
 use Rattle.rga_sequence.proofs.Spots.{more_blocks}
 use Rattle.rga_sequence.proofs.Numbers.{length-items}

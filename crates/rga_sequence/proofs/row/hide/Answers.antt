@@ -12,13 +12,13 @@ use Rattle.rga_sequence.specs.BlockRows.{items_of, numbers_of, home_of, AreHalfF
 use Rattle.rga_sequence.specs.Bounds.{AreBounds}
 use Rattle.rga_sequence.specs.Sums.{AreSums}
 use Rattle.rga_sequence.proofs.Halves.{AreHalfFull-set}
-use Rattle.rga_sequence.proofs.Members.{until}
+use Rattle.rga_tree.proofs.Interface.{until, get_or_joined, set_joined}
 use Rattle.rga_sequence.proofs.Neighbours.{bounds-same}
 use Rattle.rga_sequence.proofs.Passing.{items_at}
 use Rattle.rga_sequence.proofs.Put.{home_kept}
 use Rattle.rga_sequence.proofs.Shown.{hidden_at, all-hide, any-hide}
 use Rattle.rga_sequence.proofs.Summed.{seen_among-block}
-use Rattle.rga_sequence.proofs.Spots.{get_or_joined, set_joined, seen_set}
+use Rattle.rga_sequence.proofs.Spots.{seen_set}
 use Rattle.rga_sequence.proofs.Numbers.{length-items, numbers-set}
 use Rattle.rga_sequence.proofs.row.hide.Goals as goal
 

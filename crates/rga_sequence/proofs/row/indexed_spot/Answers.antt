@@ -3,6 +3,7 @@ use Rattle.std.proofs.Common.{◌≡◌, ℕ, ◌<◌, ◌∙◌, [], Some, sym,
 use Rattle.std.specs.Prelude.{slice_get, is_some}
 use Rattle.bg_types.specs.Identifier.{Identifier}
 use Rattle.rga_tree.specs.Row.{ids_of, is_distinct}
+use Rattle.rga_tree.proofs.Interface.{until, until_some, until-first}
 use Rattle.rga_sequence.specs.declared.block.Block.{Block}
 use Rattle.rga_sequence.specs.declared.row.Row.{Row}
 use Rattle.rga_sequence.specs.Blocks.{offset}
@@ -10,7 +11,7 @@ use Rattle.rga_sequence.specs.BlockRows.{numbers_of, home_of}
 use Rattle.rga_sequence.specs.Grouped.{home_in}
 use Rattle.rga_sequence.specs.Indexed.{blocks_in, IsIndexed}
 use Rattle.rga_sequence.proofs.Homes.{id_eq}
-use Rattle.rga_sequence.proofs.Members.{IsFirst, until, until_some, until-first, is_some-home, distinct_in}
+use Rattle.rga_sequence.proofs.Members.{IsFirst, is_some-home, distinct_in}
 use Rattle.rga_sequence.proofs.Passing.{items_there}
 use Rattle.rga_sequence.proofs.Spots.{found_first, found_within}
 use Rattle.rga_sequence.proofs.Numbers.{length-items, as_many_numbers}

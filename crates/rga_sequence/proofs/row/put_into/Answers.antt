@@ -10,15 +10,15 @@ use Rattle.rga_sequence.specs.Blocks.{joined, offset}
 use Rattle.rga_sequence.specs.BlockRows.{items_of, numbers_of, home_of, AreHalfFull}
 use Rattle.rga_sequence.specs.Bounds.{AreBounds}
 use Rattle.rga_sequence.specs.Sums.{AreSums}
-use Rattle.rga_sequence.proofs.Grown.{seen-insert, seen_le, weight_le}
+use Rattle.rga_sequence.proofs.Grown.{seen_le}
 use Rattle.rga_sequence.proofs.Halves.{AreHalfFull-set}
-use Rattle.rga_sequence.proofs.Joined.{insert_joined, offset_within}
+use Rattle.rga_sequence.proofs.Joined.{offset_within}
 use Rattle.rga_sequence.proofs.Numbers.{length-items, length-numbers, number_there, numbers-set}
 use Rattle.rga_sequence.proofs.Passing.{items_at}
 use Rattle.rga_sequence.proofs.Places.{few_numbers}
 use Rattle.rga_sequence.proofs.Put.{home_put}
 use Rattle.rga_sequence.proofs.Summed.{seen_among-within}
-use Rattle.rga_sequence.proofs.Whole.{seen_all-joined}
+use Rattle.rga_tree.proofs.Interface.{seen-insert, weight_le, insert_joined, seen_all-joined}
 use Rattle.rga_sequence.proofs.row.put_into.Goals as goal
 
 pub returns : goal.returns

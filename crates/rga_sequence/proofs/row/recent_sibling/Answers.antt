@@ -4,12 +4,11 @@ use Rattle.std.specs.Ordering.{is_lt}
 use Rattle.bg_types.specs.Identifier.{id_cmp}
 use Rattle.bg_types.specs.declared.op.Place.{Place}
 use Rattle.rga_tree.specs.Row.{place_of}
-use Rattle.rga_tree.proofs.Interface.{place_behind_sibling}
+use Rattle.rga_tree.proofs.Interface.{place_behind_sibling, offset_less}
 use Rattle.rga_sequence.specs.BlockRows.{items_of}
 use Rattle.rga_sequence.specs.Blocks.{offset}
 use Rattle.rga_sequence.specs.Indexed.{elements_in}
 use Rattle.rga_sequence.proofs.Numbers.{length-items}
-use Rattle.rga_sequence.proofs.Spots.{offset_less}
 use Rattle.rga_sequence.proofs.row.recent_sibling.Goals as goal
 
 pub returns-then-lt-clause-place : goal.returns-then-lt-clause-place

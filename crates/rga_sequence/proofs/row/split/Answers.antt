@@ -15,7 +15,7 @@ use Rattle.rga_sequence.specs.Sums.{AreSums, AreSumsBelow}
 use Rattle.rga_sequence.specs.Grouped.{home_in}
 use Rattle.rga_sequence.proofs.Halves.{full_paid, AreHalfFull-split}
 use Rattle.rga_sequence.proofs.Homes.{id_eq}
-use Rattle.rga_sequence.proofs.Joined.{split_joined, split_high, split_long}
+use Rattle.rga_sequence.proofs.Joined.{split_high}
 use Rattle.rga_sequence.proofs.Members.{all_have, has_drop, is_some-home, all_apart, halves_apart}
 use Rattle.rga_sequence.proofs.Neighbours.{bounds-split}
 use Rattle.rga_sequence.proofs.Passing.{items_there}
@@ -23,7 +23,7 @@ use Rattle.rga_sequence.proofs.Places.{Inverts, inserted_known, inserted_apart, 
 use Rattle.rga_sequence.proofs.Split.{has_joined, home_split-at}
 use Rattle.rga_sequence.proofs.Summed.{sums-split}
 use Rattle.rga_sequence.proofs.Grown.{seen_le}
-use Rattle.rga_sequence.proofs.Whole.{seen_all-joined}
+use Rattle.rga_tree.proofs.Interface.{split_joined, split_long, seen_all-joined}
 use Rattle.rga_sequence.proofs.Numbers.{length-items, length-numbers, block_there, as_many_numbers}
 use Rattle.rga_sequence.proofs.row.split.Goals as goal
 

@@ -5,7 +5,7 @@ use Rattle.std.proofs.lemmas.List.Sums.{prefix_len_is}
 use Rattle.bg_types.specs.declared.op.Place.TheVariants.{Root}
 use Rattle.rga_tree.specs.declared.element.Element.{Element}
 use Rattle.rga_sequence.proofs.Falling.{falls-parted}
-use Rattle.rga_sequence.proofs.Passing.{is_greater}
+use Rattle.rga_tree.proofs.Interface.{is_greater}
 use Rattle.rga_sequence.proofs.skip.greater_in_falling.Goals as goal
 
 pub returns-clause-count : goal.returns-clause-count

@@ -2,8 +2,9 @@
 use Rattle.std.proofs.Common.{◌≡◌, ◌≤◌, ◌+◌, ◌∙◌, true, refl, sym, ap, subst, length, arith}
 use Rattle.std.specs.Prelude.{insert, vec_len, vec_capacity}
 use Rattle.rga_tree.specs.declared.element.Element.{Element}
+use Rattle.rga_tree.proofs.Interface.{seen-insert, weight_le}
 use Rattle.rga_sequence.specs.Blocks.{seen, is_least, FallsFrom}
-use Rattle.rga_sequence.proofs.Grown.{seen-insert, seen_le, weight_le, least-insert}
+use Rattle.rga_sequence.proofs.Grown.{seen_le, least-insert}
 use Rattle.std.proofs.lemmas.List.Edits.{length-insert}
 use Rattle.rga_sequence.proofs.block.Block.insert.Goals as goal
 

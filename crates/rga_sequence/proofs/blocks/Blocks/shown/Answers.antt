@@ -1,8 +1,7 @@
 -- The goals of `shown` that are answered by hand.
 use Rattle.std.proofs.Common.{arith}
-use Rattle.rga_tree.proofs.Interface.{seen_at, visible_row}
+use Rattle.rga_tree.proofs.Interface.{seen_at, visible_row, seen_all-joined}
 use Rattle.rga_sequence.specs.Indexed.{blocks_in, elements_in}
-use Rattle.rga_sequence.proofs.Whole.{seen_all-joined}
 use Rattle.rga_sequence.proofs.blocks.Blocks.shown.Goals as goal
 
 pub find-requires-clause-there : goal.find-requires-clause-there

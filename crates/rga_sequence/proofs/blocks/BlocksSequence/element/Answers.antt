@@ -1,12 +1,10 @@
 -- The goals of `element` that are answered by hand.
 use Rattle.std.proofs.Common.{◌≡◌, ◌<◌, ◌∙◌, [], true, false, Bool, ap, sym, refl, length, get_or, arith}
 use Rattle.std.specs.Prelude.{slice_get}
-use Rattle.rga_tree.proofs.Interface.{element_row}
+use Rattle.rga_tree.proofs.Interface.{element_row, until, until_none, find-until, find_none, slice_get_joined, offset_less}
 use Rattle.rga_sequence.specs.Blocks.{offset}
 use Rattle.rga_sequence.specs.BlockRows.{items_of, has}
 use Rattle.rga_sequence.specs.Indexed.{elements_in}
-use Rattle.rga_sequence.proofs.Members.{until, until_none, find-until, find_none}
-use Rattle.rga_sequence.proofs.Spots.{slice_get_joined, offset_less}
 use Rattle.rga_sequence.proofs.Whole.{element_is}
 use Rattle.rga_sequence.proofs.Numbers.{length-items}
 use Rattle.rga_sequence.proofs.blocks.BlocksSequence.element.Goals as goal

@@ -8,11 +8,9 @@ use Rattle.bg_types.specs.declared.op.OpView.TheVariants.{Erase}
 use Rattle.bg_types.specs.declared.op.Place.TheVariants.{Root}
 use Rattle.rga_tree.specs.declared.element.Element.{Element}
 use Rattle.rga_tree.specs.Row.{operations_of}
-use Rattle.rga_tree.proofs.Interface.{hiding, has_row}
+use Rattle.rga_tree.proofs.Interface.{hiding, has_row, until, until_some, any_default}
 use Rattle.rga_tree.specs.KeepsWalk.{KeepsWalk}
 use Rattle.rga_sequence.specs.Indexed.{elements_in}
-use Rattle.rga_sequence.proofs.Members.{until, until_some}
-use Rattle.rga_sequence.proofs.Whole.{any_default}
 use Rattle.rga_sequence.proofs.blocks.BlocksSequence.hide.Goals as goal
 
 -- the row with a placed element hidden keeps the walk of the set with the erasure, and its length

@@ -4,7 +4,7 @@ use Rattle.std.specs.Prelude.{slice_get}
 use Rattle.rga_sequence.specs.Blocks.{offset}
 use Rattle.rga_sequence.specs.BlockRows.{items_of}
 use Rattle.rga_sequence.specs.Indexed.{elements_in}
-use Rattle.rga_sequence.proofs.Spots.{slice_get_joined}
+use Rattle.rga_tree.proofs.Interface.{slice_get_joined}
 use Rattle.rga_sequence.proofs.Whole.{element_is}
 use Rattle.rga_sequence.proofs.Numbers.{length-items}
 use Rattle.rga_sequence.proofs.blocks.BlocksSequence.nth.Goals as goal

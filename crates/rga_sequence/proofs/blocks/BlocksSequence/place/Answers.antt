@@ -3,11 +3,11 @@ use Rattle.std.proofs.Common.{◌≡◌, ◌+◌, ◌-◌, ◌∙◌, sym, ap, s
 use Rattle.std.proofs.lemmas.List.Edits.{length-insert}
 use Rattle.rga_tree.specs.declared.element.Element.{Element}
 use Rattle.rga_tree.specs.Row.{place_of}
-use Rattle.rga_tree.proofs.Interface.{placing, start_within, has_row}
+use Rattle.rga_tree.proofs.Interface.{placing, start_within, has_row, seen-insert, weight_le, place_in_row as place_within}
 use Rattle.rga_sequence.specs.Blocks.{seen}
 use Rattle.rga_sequence.specs.Indexed.{elements_in, HasRoom}
-use Rattle.rga_sequence.proofs.Grown.{seen-insert, seen_le, weight_le}
-use Rattle.rga_sequence.proofs.Whole.{less_room, place_within}
+use Rattle.rga_sequence.proofs.Grown.{seen_le}
+use Rattle.rga_sequence.proofs.Whole.{less_room}
 use Rattle.rga_sequence.proofs.blocks.BlocksSequence.place.Goals as goal
 
 pub put-requires-clause-parent : goal.put-requires-clause-parent

@@ -1,8 +1,7 @@
 -- The goals of `spot_at` that are answered by hand.
 use Rattle.std.proofs.Common.{arith}
-use Rattle.rga_tree.proofs.Interface.{visible_row}
+use Rattle.rga_tree.proofs.Interface.{visible_row, seen_all-joined}
 use Rattle.rga_sequence.specs.Indexed.{blocks_in, elements_in}
-use Rattle.rga_sequence.proofs.Whole.{seen_all-joined}
 use Rattle.rga_sequence.proofs.blocks.BlocksSequence.spot_at.Goals as goal
 
 pub find_spot-b-requires-clause-there : goal.find_spot-b-requires-clause-there

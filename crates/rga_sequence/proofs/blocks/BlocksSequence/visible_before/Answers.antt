@@ -1,16 +1,13 @@
 -- The goals of `visible_before` that are answered by hand.
 use Rattle.std.proofs.Common.{◌≡◌, ◌<◌, ◌∙◌, [], true, ap, sym, subst, length, get_or, arith}
-use Rattle.rga_tree.proofs.Interface.{before_row, has_row}
+use Rattle.rga_tree.proofs.Interface.{before_row, has_row, before_spot, until, until_some, seen_all-joined}
 use Rattle.rga_sequence.specs.Blocks.{seen_all, offset}
 use Rattle.rga_sequence.specs.BlockRows.{items_of, has}
 use Rattle.rga_sequence.specs.Indexed.{blocks_in, elements_in}
 use Rattle.rga_sequence.specs.Sums.{AreSums}
 use Rattle.rga_sequence.proofs.Grown.{seen_le}
-use Rattle.rga_sequence.proofs.InFront.{before_spot}
-use Rattle.rga_sequence.proofs.Members.{until, until_some}
 use Rattle.rga_sequence.proofs.Numbers.{length-items}
 use Rattle.rga_sequence.proofs.Spots.{some_spot}
-use Rattle.rga_sequence.proofs.Whole.{seen_all-joined}
 use Rattle.rga_sequence.proofs.blocks.BlocksSequence.visible_before.Goals as goal
 
 pub unwrap-b-requires : goal.unwrap-b-requires
