@@ -5,7 +5,7 @@ use Rattle.std.proofs.lemmas.Bool.{ltb-false, and_parts, and_from}
 use Rattle.bg_types.specs.Identifier.{Identifier, same_id}
 use Rattle.bg_types.proofs.Interface.{same_id-is}
 use Rattle.rga_tree.specs.declared.element.Element.{Element}
-use Rattle.rga_sequence.specs.BlockRows.{has}
+use Rattle.rga_tree.specs.Row.{has}
 use Rattle.rga_runs.specs.Counters.{are_up_to}
 use Rattle.rga_runs.proofs.Keyed.{ltb_ge}
 

@@ -1,7 +1,6 @@
 -- Lower bounds of the identifiers with which stretches begin.
 use Rattle.std.proofs.Common.{◌≡◌, ℕ, zero, suc, ◌<◌, ◌≤◌, ◌+◌, length-append, length-drop, ◌&&◌, Bool, true, false, cond, not, List, [], ◌∷◌, ◌++◌, length, take, drop, get_or, refl, sym, ap, subst, ◌∙◌, arith}
 use Rattle.std.specs.Prelude.{insert, set, nat_eq, nat_lt}
-use Rattle.rga_sequence.proofs.Passing.{pre_all, pre_stop}
 use Rattle.rga_runs.proofs.Chunks.{row, at, row-suc, row-add, drop_row}
 use Rattle.std.specs.declared.cmp.Ordering.{Ordering}
 use Rattle.std.specs.declared.cmp.Ordering.TheVariants.{Less, Equal, Greater}
@@ -13,7 +12,7 @@ use Rattle.std.proofs.lemmas.List.{take-append-drop, get_or-drop}
 use Rattle.std.proofs.lemmas.List.Folds.{list_all_more}
 use Rattle.bg_types.specs.Identifier.{Identifier, id_cmp}
 use Rattle.bg_types.proofs.Interface.{id_cmp-total, id_cmp-exact}
-use Rattle.rga_tree.proofs.Interface.{later-less, less_of, turned}
+use Rattle.rga_tree.proofs.Interface.{later-less, less_of, turned, pre_all, pre_stop}
 use Rattle.rga_runs.specs.declared.stretch.Stretch.{Stretch}
 use Rattle.rga_runs.specs.Typed.{later}
 use Rattle.rga_runs.specs.Blocks.{none_below, passed}

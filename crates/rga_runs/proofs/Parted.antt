@@ -5,8 +5,8 @@ use Rattle.std.proofs.lemmas.List.{length-take-le, take-append-drop}
 use Rattle.std.proofs.lemmas.List.Elements.{All-set, All-append, All-cons, All-take, All-drop}
 use Rattle.bg_types.specs.Identifier.{Identifier}
 use Rattle.rga_tree.specs.Row.{is_distinct}
-use Rattle.rga_sequence.specs.Blocks.{joined, offset}
-use Rattle.rga_sequence.proofs.Joined.{joined-suc, split_joined, split_low, split_front}
+use Rattle.rga_tree.specs.Spot.{joined, offset}
+use Rattle.rga_tree.proofs.Interface.{joined-suc, split_joined, split_low, split_front}
 use Rattle.rga_runs.specs.declared.stretch.Stretch.{Stretch}
 use Rattle.rga_runs.specs.Changed.{IsParted}
 use Rattle.rga_runs.specs.Typed.{later}

@@ -9,12 +9,8 @@ use Rattle.bg_types.specs.Identifier.{Identifier}
 use Rattle.bg_types.specs.declared.op.Place.TheVariants.{Root, After}
 use Rattle.rga_tree.specs.declared.element.Element.{Element}
 use Rattle.rga_tree.specs.Row.{place_of}
-use Rattle.rga_tree.proofs.Interface.{put_in}
-use Rattle.rga_sequence.specs.Blocks.{joined, offset}
-use Rattle.rga_sequence.proofs.Members.{until}
-use Rattle.rga_sequence.proofs.Passing.{is_greater, pre_all}
-use Rattle.rga_sequence.proofs.Spots.{set_joined, get_or_joined}
-use Rattle.rga_sequence.proofs.Joined.{joined-suc, drop_joined, insert_joined}
+use Rattle.rga_tree.proofs.Interface.{put_in, until, is_greater, pre_all, set_joined, get_or_joined, joined-suc, drop_joined, insert_joined}
+use Rattle.rga_tree.specs.Spot.{joined, offset}
 use Rattle.rga_runs.proofs.Chunks.{take_row, drop_row}
 
 pub some_of : {X : Type 0} (o : Option X) (P : Type 0) → IfNone o P → (P → ⊥) → IsSome o

@@ -13,12 +13,10 @@ use Rattle.bg_types.specs.declared.op.Place.TheVariants.{After}
 use Rattle.bg_types.specs.declared.op.OpView.TheVariants.{Insert}
 use Rattle.rga_tree.specs.declared.element.Element.{Element}
 use Rattle.rga_tree.specs.Tree.{stands_in}
-use Rattle.rga_tree.specs.Row.{operations_of, start_of, place_of}
+use Rattle.rga_tree.specs.Row.{operations_of, start_of, place_of, has}
 use Rattle.rga_tree.specs.KeepsWalk.{KeepsWalk}
 use Rattle.rga_tree.specs.Run.{insertions, with_operations, AreNew}
-use Rattle.rga_tree.proofs.Interface.{has_row, placing, start_within, new_behind, next_new, run_of, put_in, put_in-cons, start_behind, formed_run, placing_run}
-use Rattle.rga_sequence.specs.BlockRows.{has}
-use Rattle.rga_sequence.proofs.Whole.{place_within}
+use Rattle.rga_tree.proofs.Interface.{has_row, placing, start_within, new_behind, next_new, run_of, put_in, put_in-cons, start_behind, formed_run, placing_run, place_in_row as place_within}
 use Rattle.rga_runs.specs.declared.stretch.Stretch.{Stretch}
 use Rattle.rga_runs.specs.Typed.{later, typed}
 use Rattle.rga_runs.specs.Stretches.{elements_in, are_stored, IsOutside, AreApart}

@@ -8,12 +8,9 @@ use Rattle.bg_types.specs.declared.op.Place.{Place}
 use Rattle.bg_types.proofs.Interface.{id_cmp-total}
 use Rattle.rga_tree.specs.KeepsWalk.{KeepsWalk}
 use Rattle.rga_tree.specs.Row.{place_of}
-use Rattle.rga_tree.proofs.Interface.{later-less, less_of, place_behind_sibling}
+use Rattle.rga_tree.proofs.Interface.{later-less, less_of, place_behind_sibling, until, is_greater, get_or_joined, offset_less}
 use Rattle.rga_tree.specs.declared.element.Element.{Element}
-use Rattle.rga_sequence.specs.Blocks.{joined, offset}
-use Rattle.rga_sequence.proofs.Members.{until}
-use Rattle.rga_sequence.proofs.Passing.{is_greater}
-use Rattle.rga_sequence.proofs.Spots.{get_or_joined, offset_less}
+use Rattle.rga_tree.specs.Spot.{joined, offset}
 use Rattle.rga_runs.specs.declared.stretch.Stretch.{Stretch}
 use Rattle.rga_runs.specs.declared.block.Block.{Block}
 use Rattle.rga_runs.specs.declared.row.Row.{Row}

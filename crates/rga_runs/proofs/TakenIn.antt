@@ -10,10 +10,8 @@ use Rattle.bg_types.specs.declared.op.Place.{Place}
 use Rattle.bg_types.specs.declared.op.Place.TheVariants.{After}
 use Rattle.rga_tree.specs.declared.element.Element.{Element}
 use Rattle.rga_tree.specs.Row.{start_of}
-use Rattle.rga_tree.specs.Spot.{seen}
-use Rattle.rga_tree.proofs.Interface.{run_of, put_in}
-use Rattle.rga_sequence.specs.Blocks.{joined, offset}
-use Rattle.rga_sequence.proofs.Members.{until}
+use Rattle.rga_tree.specs.Spot.{seen, joined, offset}
+use Rattle.rga_tree.proofs.Interface.{run_of, put_in, until}
 use Rattle.rga_runs.specs.declared.stretch.Stretch.{Stretch}
 use Rattle.rga_runs.specs.Changed.{IsGrown}
 use Rattle.rga_runs.specs.Counters.{are_up_to}

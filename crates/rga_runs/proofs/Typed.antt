@@ -9,11 +9,9 @@ use Rattle.bg_types.specs.declared.op.Place.{Place}
 use Rattle.bg_types.specs.declared.op.Place.TheVariants.{After}
 use Rattle.bg_types.proofs.Interface.{id_cmp-total, same_id-is, same_id-itself}
 use Rattle.rga_tree.specs.declared.element.Element.{Element}
-use Rattle.rga_tree.proofs.Interface.{later-apart, later-less, less_of, run_of}
+use Rattle.rga_tree.proofs.Interface.{later-apart, later-less, less_of, run_of, until, is_greater}
 pub use Rattle.rga_tree.proofs.Interface.{later-more, later-none}
-use Rattle.rga_sequence.specs.BlockRows.{has}
-use Rattle.rga_sequence.proofs.Members.{until}
-use Rattle.rga_sequence.proofs.Passing.{is_greater}
+use Rattle.rga_tree.specs.Row.{has}
 use Rattle.rga_runs.specs.Typed.{later, typed, parent_at, is_odd, bits_from, unset}
 use Rattle.rga_runs.proofs.Bits.{twice, odd_up, half_up, odd_more, half_more}
 

@@ -5,11 +5,9 @@ use Rattle.std.specs.Bool.{OnTrue, OnFalse}
 use Rattle.bg_types.specs.Identifier.{Identifier}
 use Rattle.rga_tree.specs.declared.element.Element.{Element}
 use Rattle.rga_tree.specs.KeepsWalk.{KeepsWalk}
-use Rattle.rga_tree.specs.Spot.{seen, IsVisiblePlace}
-use Rattle.rga_sequence.specs.Blocks.{offset}
-use Rattle.rga_sequence.specs.BlockRows.{has}
-use Rattle.rga_sequence.proofs.Spots.{slice_get_joined, offset_less}
-use Rattle.rga_sequence.proofs.Whole.{seen_all-joined}
+use Rattle.rga_tree.specs.Spot.{seen, IsVisiblePlace, offset}
+use Rattle.rga_tree.specs.Row.{has}
+use Rattle.rga_tree.proofs.Interface.{slice_get_joined, offset_less, seen_all-joined}
 use Rattle.rga_runs.specs.declared.stretch.Stretch.{Stretch}
 use Rattle.rga_runs.specs.Typed.{later, is_odd, bits_from, unset}
 use Rattle.rga_runs.specs.Stretches.{elements_of, parts_in, elements_in, are_stored, visible_in, IsOutside, AreApart}

@@ -6,7 +6,7 @@ use Rattle.bg_types.specs.declared.op.Place.{Place}
 use Rattle.bg_types.specs.declared.op.Place.TheVariants.{Root, After}
 use Rattle.rga_tree.specs.declared.element.Element.{Element}
 use Rattle.rga_tree.specs.Row.{is_distinct}
-use Rattle.rga_sequence.specs.Blocks.{joined}
+use Rattle.rga_tree.specs.Spot.{joined}
 use Rattle.rga_runs.specs.Typed.{later, typed, unset}
 use Rattle.rga_runs.specs.declared.stretch.Stretch.{Stretch}
 

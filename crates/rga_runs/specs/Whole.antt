@@ -4,7 +4,7 @@ use Rattle.std.proofs.lemmas.List.{length-map, map-append}
 use Rattle.std.proofs.lemmas.List.Concat.{flat_map-append}
 use Rattle.std.specs.List.{flat_map}
 use Rattle.rga_tree.specs.declared.element.Element.{Element}
-use Rattle.rga_sequence.specs.Blocks.{joined}
+use Rattle.rga_tree.specs.Spot.{joined}
 use Rattle.rga_runs.specs.declared.stretch.Stretch.{Stretch}
 use Rattle.rga_runs.specs.declared.block.Block.{Block}
 use Rattle.rga_runs.specs.Stretches.{elements_of, parts_in, elements_in}

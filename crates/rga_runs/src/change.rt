@@ -10,7 +10,7 @@ ghost use Rattle.bg_types.specs.declared.op.Place.TheVariants.{After};
 ghost use Rattle.rga_tree.specs.declared.element.Element.{Element};
 ghost use Rattle.rga_tree.specs.Row.{place_of, start_of};
 ghost use Rattle.rga_tree.specs.KeepsWalk.{KeepsWalk};
-ghost use Rattle.rga_sequence.specs.Blocks.{joined};
+ghost use Rattle.rga_tree.specs.Spot.{joined};
 ghost use Rattle.rga_runs.specs.declared.stretch.Stretch.{Stretch as Kept};
 ghost use Rattle.rga_runs.specs.Typed.{later, typed};
 ghost use Rattle.rga_runs.specs.Stretches.{parts_in, elements_in, are_stored, visible_in, IsOutside, IsPlaced, AreApart};

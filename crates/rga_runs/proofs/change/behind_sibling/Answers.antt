@@ -4,8 +4,8 @@ use Rattle.std.proofs.lemmas.Bool.{ltb-true}
 use Rattle.std.specs.List.{prefix_len}
 use Rattle.std.specs.Ordering.{is_lt}
 use Rattle.bg_types.specs.Identifier.{id_cmp}
-use Rattle.rga_sequence.specs.Blocks.{joined}
-use Rattle.rga_sequence.proofs.Passing.{is_greater}
+use Rattle.rga_tree.specs.Spot.{joined}
+use Rattle.rga_tree.proofs.Interface.{is_greater}
 use Rattle.rga_runs.specs.declared.stretch.Stretch.{Stretch}
 use Rattle.rga_runs.specs.declared.block.Block.{Block}
 use Rattle.rga_runs.specs.Stretches.{parts_in}

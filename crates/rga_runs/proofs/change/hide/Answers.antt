@@ -1,8 +1,8 @@
 -- The goals of `hide` that are answered by hand.
 use Rattle.std.proofs.Common.{◌≡◌, ◌∙◌, true, false, get_or, sym, ap, arith}
 use Rattle.std.specs.Prelude.{set}
-use Rattle.rga_sequence.specs.Blocks.{offset}
-use Rattle.rga_sequence.proofs.Spots.{offset_less}
+use Rattle.rga_tree.specs.Spot.{offset}
+use Rattle.rga_tree.proofs.Interface.{offset_less}
 use Rattle.rga_runs.specs.declared.stretch.Stretch.{Stretch}
 use Rattle.rga_runs.specs.Typed.{is_odd, bits_from}
 use Rattle.rga_runs.specs.Stretches.{parts_in, elements_in, are_stored, visible_in, visible_of}

@@ -1,6 +1,6 @@
 -- The goal of `place_for` that is answered by hand.
 use Rattle.std.proofs.Common.{◌≡◌, ◌+◌, ◌∙◌, List, length, take, drop, refl, sym, ap, subst}
-use Rattle.rga_sequence.specs.Blocks.{joined}
+use Rattle.rga_tree.specs.Spot.{joined}
 use Rattle.rga_runs.specs.declared.block.Block.{Block}
 use Rattle.rga_runs.specs.Stretches.{parts_in}
 use Rattle.rga_runs.specs.Blocks.{row_of, at_spot, passed}

@@ -3,7 +3,7 @@ use Rattle.std.proofs.Common.{◌≡◌, ◌+◌, ◌-◌, ◌<◌, ◌++◌, �
 use Rattle.std.specs.Prelude.{All, insert, set}
 use Rattle.bg_types.specs.declared.op.Place.TheVariants.{After}
 use Rattle.rga_tree.specs.declared.element.Element.{Element}
-use Rattle.rga_sequence.specs.Blocks.{joined}
+use Rattle.rga_tree.specs.Spot.{joined}
 use Rattle.rga_runs.specs.declared.stretch.Stretch.{Stretch}
 use Rattle.rga_runs.specs.Changed.{IsGrown, IsLone}
 use Rattle.rga_runs.specs.Typed.{later, typed}

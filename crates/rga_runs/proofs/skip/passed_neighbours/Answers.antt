@@ -4,7 +4,7 @@ use Rattle.std.specs.List.{prefix_len}
 use Rattle.std.proofs.lemmas.List.{take_rest, drop-drop, get_or-drop, length-take-le}
 use Rattle.std.proofs.lemmas.List.Sums.{prefix_len-le-length}
 use Rattle.rga_runs.specs.declared.block.Block.{Block}
-use Rattle.rga_sequence.proofs.Passing.{stops_early, goes_on}
+use Rattle.rga_tree.proofs.Interface.{stops_early, goes_on}
 use Rattle.rga_runs.proofs.Neighbours.{bounds-pass}
 use Rattle.rga_runs.proofs.Passed.{is_passed, passed_over}
 use Rattle.rga_runs.proofs.skip.passed_neighbours.Goals as goal

@@ -1,8 +1,7 @@
 -- The goals of `element` that are answered by hand.
 use Rattle.std.proofs.Common.{◌≡◌, ◌<◌, ◌∙◌, Some, sym, ap, length, get_or, arith}
 use Rattle.std.specs.Prelude.{slice_get}
-use Rattle.rga_tree.proofs.Interface.{element_row}
-use Rattle.rga_sequence.proofs.Members.{find-until, find_none}
+use Rattle.rga_tree.proofs.Interface.{element_row, find-until, find_none}
 use Rattle.rga_runs.specs.declared.stretch.Stretch.{Stretch}
 use Rattle.rga_runs.specs.Stretches.{elements_of, elements_in}
 use Rattle.rga_runs.specs.Blocks.{at_spot}

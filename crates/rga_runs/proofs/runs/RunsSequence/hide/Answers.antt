@@ -6,9 +6,7 @@ use Rattle.bg_types.specs.declared.op.Place.TheVariants.{Root}
 use Rattle.rga_tree.specs.declared.element.Element.{Element}
 use Rattle.rga_tree.specs.Row.{operations_of}
 use Rattle.rga_tree.specs.KeepsWalk.{KeepsWalk}
-use Rattle.rga_tree.proofs.Interface.{hiding, has_row}
-use Rattle.rga_sequence.proofs.Members.{until, until_some}
-use Rattle.rga_sequence.proofs.Whole.{any_default}
+use Rattle.rga_tree.proofs.Interface.{hiding, has_row, until, until_some, any_default}
 use Rattle.rga_runs.specs.Stretches.{elements_in}
 use Rattle.rga_runs.specs.Counters.{are_up_to}
 use Rattle.rga_runs.proofs.Counters.{up_set, up_at}

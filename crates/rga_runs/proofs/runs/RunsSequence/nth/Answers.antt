@@ -1,7 +1,7 @@
 -- The goals of `nth` that are answered by hand.
 use Rattle.std.proofs.Common.{◌≡◌, ◌+◌, ◌<◌, ◌∙◌, [], List, Some, length, take, get_or, sym, ap, subst, arith}
 use Rattle.std.specs.Prelude.{slice_get}
-use Rattle.rga_sequence.specs.Blocks.{offset}
+use Rattle.rga_tree.specs.Spot.{offset}
 use Rattle.rga_runs.specs.declared.stretch.Stretch.{Stretch}
 use Rattle.rga_runs.specs.declared.block.Block.{Block}
 use Rattle.rga_runs.specs.Stretches.{elements_of, parts_in, elements_in, count_in}

@@ -5,9 +5,7 @@ use Rattle.std.proofs.lemmas.List.Edits.{length-insert}
 use Rattle.rga_tree.specs.declared.element.Element.{Element}
 use Rattle.rga_tree.specs.Row.{place_of}
 use Rattle.rga_tree.specs.Spot.{seen}
-use Rattle.rga_tree.proofs.Interface.{placing, start_within, has_row}
-use Rattle.rga_sequence.proofs.Grown.{seen-insert, weight_le}
-use Rattle.rga_sequence.proofs.Whole.{place_within}
+use Rattle.rga_tree.proofs.Interface.{placing, start_within, has_row, seen-insert, weight_le, place_in_row as place_within}
 use Rattle.rga_runs.specs.Stretches.{elements_in, are_stored}
 use Rattle.rga_runs.specs.Counters.{are_up_to}
 use Rattle.rga_runs.proofs.Counters.{up_more, up_insert}

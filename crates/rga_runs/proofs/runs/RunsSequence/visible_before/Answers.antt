@@ -1,8 +1,7 @@
 -- The goals of `visible_before` that are answered by hand.
 use Rattle.std.proofs.Common.{◌<◌, ◌+◌, ◌∙◌, [], List, length, take, get_or, ap, sym, subst, arith}
 use Rattle.std.specs.Prelude.{All}
-use Rattle.rga_tree.proofs.Interface.{before_row}
-use Rattle.rga_sequence.proofs.InFront.{before_spot}
+use Rattle.rga_tree.proofs.Interface.{before_row, before_spot}
 use Rattle.rga_runs.specs.declared.stretch.Stretch.{Stretch}
 use Rattle.rga_runs.specs.declared.block.Block.{Block}
 use Rattle.rga_runs.specs.Typed.{unset}
