@@ -20,7 +20,7 @@ use Rattle.pending_ops.proofs.Tables.{AreApart-append, is_in-append, is_in-here,
 use Rattle.pending_ops.proofs.Views.{contains-from_list, follows-insertions_of}
 use Rattle.pending_ops.proofs.HandingOut.{is_after-one}
 use Rattle.pending_ops.proofs.Listing.{len-from_list}
-use Rattle.std.proofs.lemmas.Bool.{or_parts}
+use Rattle.std.proofs.lemmas.Bool.{or_parts, or_right}
 
 -- the slot of q names one of these
 abbrev pub names_one : (Identifier → Option Slot) → List Identifier → Identifier → Bool
@@ -71,11 +71,7 @@ among_one slot [] p q m h = absurd (true≢false (sym m))
 among_one slot (r ∷ ps) p q m h =
     one_of (same_id p r) (is_in ps p) _ m
     (λ same. ap (λ b. b || names_one slot ps q) (subst (λ x. names slot x q ≡ true) (same_id-is p r same) h))
-    (λ there. ap (λ b. names slot r q || b) (among_one slot ps p q there h) ∙ or-true (names slot r q))
-  where
-    or-true : (b : Bool) → (b || true) ≡ true
-    or-true true = refl
-    or-true false = refl
+    (λ there. or_right (names slot r q) (names_one slot ps q) (among_one slot ps p q there h))
 
 at_split : (done todo : List Identifier) (x : Identifier) → slice_get (done ++ todo) (length done) ≡ Some x → (more : List Identifier) × (todo ≡ x ∷ more)
 at_split [] [] x h = let e : None ≡ Some x = h in absurd cc
@@ -186,13 +182,8 @@ module _ (slots : List (Identifier × Slot)) (id : Identifier) (xs : List Identi
   listed q (p ∷ ps) h =
       let up = listed p ps h.1 in
       l.exact q
-      ∙ ap (λ b. names (slot_in slots) id q || b)
+      ∙ or_right (names (slot_in slots) id q) (names_one (slot_in slots) l.done q)
       (among_one (slot_in slots) l.done p q (sym (ap (λ ys. is_in ys p) done_is) ∙ up) (sym (follows-insertions_of slots s ins p q) ∙ h.0))
-      ∙ or-true (names (slot_in slots) id q)
-    where
-      or-true : (b : Bool) → (b || true) ≡ true
-      or-true true = refl
-      or-true false = refl
 
   pub listing_counts : CountsBelow s id (length xs)
   listing_counts = (

@@ -22,10 +22,6 @@ pub is_after-one : (a : Place) (p q : Identifier) → is_after a p ≡ true → 
 is_after-one Root p q h = absurd (true≢false (sym h))
 is_after-one (After a) p q h = ap (λ x. same_id x q) (same_id-is a p h)
 
-not_true : (b : Bool) → not b ≡ true → b ≡ false
-not_true true h = absurd (true≢false (sym h))
-not_true false h = refl
-
 -- where nothing is released, nothing is ready
 pub none_ready : (slots : List (Identifier × Slot)) (released erased : List Identifier) (room : ℕ) → released ≡ [] → NoneReady (waiting_of slots released erased room)
 none_ready slots released erased room e q = ap (λ xs. is_ready (waiting_of slots xs erased room) q) e ∙ by (map.get (insertions_of slots) q)

@@ -4,6 +4,7 @@ use Rattle.std.specs.Prelude.{◌||◌, map as each, slice_get}
 use Rattle.std.specs.Option.{option_map}
 use Rattle.std.specs.FinMap as map
 use Rattle.std.specs.FinSet as set
+use Rattle.std.proofs.lemmas.List.{length-map}
 use Rattle.std.proofs.lemmas.Option.{slice_get-map}
 use Rattle.std.proofs.lemmas.Map.Entries.{place_from_lookup, lookup_from_place}
 use Rattle.bg_types.specs.Identifier.{Identifier, id_cmp, same_id}
@@ -63,10 +64,6 @@ module _ {X : Type 0} where
   slice_get_none [] j h = omega arith
   slice_get_none (x ∷ xs) zero h = let e : Some x ≡ None = h in absurd cc
   slice_get_none (x ∷ xs) (suc j) h = let rest = slice_get_none xs j h in omega arith
-
-  pub length-each : {Y : Type 0} (f : X → Y) (xs : List X) → length (each f xs) ≡ length xs
-  length-each f [] = refl
-  length-each f (x ∷ xs) = ap (λ n. suc n) (length-each f xs)
 
 -- those that occur once stand in one place
 pub one_place : (xs : List Identifier) (i j : ℕ) (x : Identifier) → AreApart xs → slice_get xs i ≡ Some x → slice_get xs j ≡ Some x → i ≡ j
@@ -175,5 +172,5 @@ module _ (slots : List (Identifier × Slot)) (released erased : List Identifier)
   lists_once = record {
     each = λ op. (has op, had op);
     once = once;
-    all = length-append ins del ∙ (λ i. (length-each insertion_of slots ∙ sym (len-insertions_of slots apart)) i + (length-each Erase erased ∙ sym (len-from_list erased erased_apart)) i);
+    all = length-append ins del ∙ (λ i. (length-map slots insertion_of ∙ sym (len-insertions_of slots apart)) i + (length-map erased Erase ∙ sym (len-from_list erased erased_apart)) i);
   }

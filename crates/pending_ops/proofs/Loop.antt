@@ -16,25 +16,14 @@ use Rattle.pending_ops.specs.Releasing.{PlacesBelow, PlacesEach, PlacesOne, is_p
 use Rattle.pending_ops.proofs.Tables.{AreApart-distinct, one_of}
 use Rattle.pending_ops.proofs.Views.{contains-from_list}
 use Rattle.pending_ops.proofs.Listing.{len-from_list}
-use Rattle.pending_ops.proofs.OneStep.{after_cut, by_false}
+use Rattle.pending_ops.proofs.OneStep.{after_cut}
 use Rattle.pending_ops.proofs.Placed.{after_parents, apart, followers_placed, ids, placed_below, ready_below, ready_placed, rest_of, were_held}
-use Rattle.std.proofs.lemmas.Bool.{and_parts, or_left}
+use Rattle.std.proofs.lemmas.Bool.{and_parts, false_from_ne_true, or_left}
 
 -- one more at the end of the loop
 pub PlacesEach-push : (old : Waiting) (ops : List OpView) (new last : Waiting) (op : OpView) → PlacesEach old ops new → PlacesOne new op last → PlacesEach old (ops ++ op ∷ []) last
 PlacesEach-push old [] new last op h one = (last, (subst (λ w. PlacesOne w op last) h one, refl))
 PlacesEach-push old (x ∷ ops) new last op h one = (h.0, (h.1.0, PlacesEach-push h.0 ops new last op h.1.1 one))
-
-IsChain-same : (s t : OperationSet) → s.ins ≡ t.ins → (q : Identifier) (ps : List Identifier) (id : Identifier) → IsChain s q ps id → IsChain t q ps id
-IsChain-same s t e q [] id h = sym (ap (λ m. option_map_or (λ (n : Node). is_after n.parent id) (map.get m q) false) e) ∙ h
-IsChain-same s t e q (p ∷ ps) id h = (sym (ap (λ m. option_map_or (λ (n : Node). is_after n.parent p) (map.get m q) false) e) ∙ h.0, IsChain-same s t e p ps id h.1)
-
--- the deletions have no part in the count
-pub CountsBelow-same : (s t : OperationSet) → s.ins ≡ t.ins → (id : Identifier) (n : ℕ) → CountsBelow s id n → CountsBelow t id n
-CountsBelow-same s t e id n counts = (
-  counts.0,
-  ((λ q. ((λ m. let b = (counts.1.0 q).0 m in (b.0, IsChain-same s t e q b.0 id b.1)), (λ b. (counts.1.0 q).1 (b.0, IsChain-same t s (sym e) q b.0 id b.1)))), counts.1.1),
-)
 
 length-ids : (ops : List OpView) → length (ids ops) ≡ length ops
 length-ids [] = refl
@@ -54,7 +43,7 @@ pub one_more_below : (old start now next : Waiting) (id : Identifier) (ops : Lis
 one_more_below old start now next id ops (Insert x parent ch) none r h takes =
     let was : (p q : Identifier) → follows start.held p q ≡ true → follows old.held p q ≡ true = λ p q f. sym (ap (λ s. follows s p q) r.held) ∙ f in
     let first : (q : Identifier) → is_ready start q ≡ true → IsBelow old.held id q = λ q ready. ([], sym (r.ready q ∙ ap (λ b. b || follows old.held id q) (none q)) ∙ ready) in
-    let new : is_placed (ids ops) x ≡ false = by_false (is_placed (ids ops) x) (λ m. gone _ _ (is_placed (ids ops) x) m (sym (rest_of start ops now h x) ∙ takes.was_held)) in (
+    let new : is_placed (ids ops) x ≡ false = false_from_ne_true (is_placed (ids ops) x) (λ m. gone _ _ (is_placed (ids ops) x) m (sym (rest_of start ops now h x) ∙ takes.was_held)) in (
       set.from_list (x ∷ ids ops),
       (
         λ q m. one_of (same_id q x) (is_placed (ids ops) q) _ (sym (contains-from_list (x ∷ ids ops) q) ∙ m)
@@ -94,12 +83,12 @@ module _ (old start new : Waiting) (id : Identifier) (ops : List OpView) (none :
   follows_new p q f =
       let b = and_parts (not (is_placed (ids ops) q)) (follows old.held p q)
       (sym (ap (λ o. option_map_or (λ (n : Node). is_after n.parent p) o false) (rest q) ∙ after_cut (is_placed (ids ops) q) (map.get old.held.ins q) p) ∙ f) in
-      (by_false (is_placed (ids ops) q) (λ m. true≢false (sym b.0 ∙ ap not m)), b.1)
+      (false_from_ne_true (is_placed (ids ops) q) (λ m. true≢false (sym b.0 ∙ ap not m)), b.1)
 
   waits : (p q : Identifier) → follows new.held p q ≡ true → is_placed (id ∷ ids ops) p ≡ false
   waits p q f =
       let was = follows_new p q f in
-      by_false (is_placed (id ∷ ids ops) p) (λ m. one_of (same_id p id) (is_placed (ids ops) p) ⊥ m
+      false_from_ne_true (is_placed (id ∷ ids ops) p) (λ m. one_of (same_id p id) (is_placed (ids ops) p) ⊥ m
       (λ own. true≢false (sym (all_below q [] (subst (λ x. follows old.held x q ≡ true) (same_id-is p id own) was.1)) ∙ was.0))
       (λ placed. true≢false (sym (followers_placed start ops new h end p q placed (same_follows p q ∙ was.1)) ∙ was.0)))
 

@@ -69,10 +69,6 @@ pub some_back : (b : Bool) (o : Option Node) → is_some (cond b None o) ≡ tru
 some_back true o e = absurd (true≢false (sym e))
 some_back false o e = (refl, e)
 
-pub by_false : (b : Bool) → (b ≡ true → ⊥) → b ≡ false
-by_false true h = absurd (h refl)
-by_false false h = refl
-
 pub not_and : (a b : Bool) → a ≡ false → b ≡ true → (not a && b) ≡ true
 not_and a b f g = (λ i. not (f i) && g i)
 

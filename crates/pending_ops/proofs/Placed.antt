@@ -15,8 +15,8 @@ use Rattle.pending_ops.specs.Below.{IsBelow}
 use Rattle.pending_ops.specs.Chains.{AreApart}
 use Rattle.pending_ops.specs.Releasing.{FollowPlaced, PlacesEach, is_placed, subject}
 use Rattle.pending_ops.proofs.Tables.{one_of, same_id-equivalence}
-use Rattle.pending_ops.proofs.OneStep.{after_cut, back, by_false, decided, follows_back, no_erasure, not_and, ready_back, some_back, step_of}
-use Rattle.std.proofs.lemmas.Bool.{or_left, or_right}
+use Rattle.pending_ops.proofs.OneStep.{after_cut, back, decided, follows_back, no_erasure, not_and, ready_back, some_back, step_of}
+use Rattle.std.proofs.lemmas.Bool.{false_from_ne_true, or_left, or_right}
 
 abbrev pub ids : List OpView → List Identifier
 ids ops = each subject ops
@@ -58,7 +58,7 @@ pub apart : (old : Waiting) (ops : List OpView) (new : Waiting) → PlacesEach o
 apart old [] new h = tt
 apart old (Insert id parent ch ∷ ops) new h =
     let s = step_of old h.0 id parent ch h.1.0 in (
-      by_false (is_placed (ids ops) id) (λ m.
+      false_from_ne_true (is_placed (ids ops) id) (λ m.
           true≢false (sym (same_id-equivalence.refl id) ∙ (some_back (same_id id id) (map.get old.held.ins id) (sym (ap is_some (s.ins id)) ∙ placed_held h.0 ops new h.1.1 id m)).0)),
       apart h.0 ops new h.1.1,
     )

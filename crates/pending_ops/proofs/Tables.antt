@@ -13,7 +13,7 @@ use Rattle.bg_types.specs.Identifier.{Identifier, same_id}
 use Rattle.bg_types.proofs.Interface.{id_cmp-total, same_id-itself}
 use Rattle.pending_ops.specs.Chains.{AreApart, is_in}
 pub use Rattle.bg_types.proofs.Interface.{one_of}
-use Rattle.std.proofs.lemmas.Bool.{or_parts}
+use Rattle.std.proofs.lemmas.Bool.{or_parts, or_right}
 
 pub same_id-equivalence : IsEquivalence same_id
 same_id-equivalence = eq_by_cmp_equiv id_cmp-total
@@ -52,12 +52,8 @@ is_in-updated xs ys id b h q = sym (list_any-id_eq ys q) ∙ h q ∙ (λ i. cond
 pub is_in-append : (q : Identifier) (xs ys : List Identifier) → is_in (xs ++ ys) q ≡ (is_in xs q || is_in ys q)
 is_in-append q xs ys = list_any-append (same_id q) xs ys
 
-or-true : (b : Bool) → (b || true) ≡ true
-or-true true = refl
-or-true false = refl
-
 pub is_in-later : (q x : Identifier) (xs : List Identifier) → is_in xs q ≡ true → is_in (x ∷ xs) q ≡ true
-is_in-later q x xs m = ap (λ b. same_id q x || b) m ∙ or-true (same_id q x)
+is_in-later q x xs m = or_right (same_id q x) (is_in xs q) m
 
 pub is_in-here : (x : Identifier) (xs : List Identifier) → is_in (x ∷ xs) x ≡ true
 is_in-here x xs = ap (λ b. b || is_in xs x) (same_id-itself x)
@@ -120,11 +116,6 @@ pub from_ok : {A E : Type 0} (r : Result A E) (P : Type 0) → IsOk r → OnOk r
 from_ok (Ok x) P h p = p
 from_ok (Err e) P h p = absurd (true≢false (sym h))
 
--- a call that fails only where a key is absent succeeds where it is there
-pub ok_there : {A E : Type 0} (r : Result A E) (P : Type 0) → OnErr r P → (P → ⊥) → IsOk r
-ok_there (Ok x) P h k = refl
-ok_there (Err e) P h k = absurd (k h)
-
 pub is_in-slice_get : (xs : List Identifier) (k : ℕ) (x : Identifier) → slice_get xs k ≡ Some x → is_in xs x ≡ true
 is_in-slice_get [] k x h = let e : None ≡ Some x = h in cc
 is_in-slice_get (y ∷ ys) zero x h =
@@ -147,12 +138,6 @@ one_less false n m h e = absurd (true≢false (sym h))
 pub one_less_at_most : (b : Bool) (n m : ℕ) → n + cond b 1 0 ≡ m → m ≤ n + 1
 one_less_at_most true n m e = omega arith
 one_less_at_most false n m e = omega arith
-
--- writing a key that is there adds no entry
-pub no_more : {X E : Type 0} (r : Result (Option X) E) (o : Option X) (n m : ℕ) → IsOk r → is_some o ≡ true → IfOk r (λ old. old ≡ o)
-    → IfOk r (λ old. n ≡ m + cond (is_some old) 0 1) → n ≡ m
-no_more (Ok old) o n m ok some was len = len ∙ ap (λ b. m + cond b 0 1) (ap is_some was ∙ some) ∙ omega arith
-no_more (Err e) o n m ok some was len = absurd (true≢false (sym ok))
 
 -- writing a key adds at most one
 pub one_more : {X E : Type 0} (r : Result (Option X) E) (n m : ℕ) → IsOk r → IfOk r (λ old. n ≡ m + cond (is_some old) 0 1) → n ≤ m + 1

@@ -42,14 +42,6 @@ module _ (slot : Identifier → Option Slot) where
       let same : id ≡ x = cc in
       record { at = h.1.0; found = ap slot same ∙ h.1.1.0; more = xs; all = ap (λ y. y ∷ xs) (sym same); left = h.1.1.1 }
 
-  pub walking_room : (start cursor : Option Identifier) (id : Identifier) (old new : List Identifier) (capacity : ℕ)
-      → IsWalking start cursor old new capacity → cursor ≡ Some id → length new < capacity
-  walking_room start cursor id old new capacity w is =
-      let n = leads_on id w.rest (subst (λ c. Links slot c w.rest) is w.left) in
-      let e : length w.rest ≡ length (id ∷ n.more) = ap length n.all in
-      let r = w.room in
-      omega arith
-
   pub walking_on : (start cursor : Option Identifier) (id : Identifier) (old new newer : List Identifier) (capacity : ℕ) (s : Slot)
       → IsWalking start cursor old new capacity → cursor ≡ Some id → newer ≡ new ++ id ∷ [] → slot id ≡ Some s → IsWalking start s.next old newer capacity
   walking_on start cursor id old new newer capacity s w is pushed found =

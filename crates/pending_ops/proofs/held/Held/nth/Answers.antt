@@ -2,13 +2,14 @@
 use Rattle.std.proofs.Common.{◌≡◌, ◌≤◌, ◌-◌, Some, sym, ap, subst, ◌∙◌, length, arith}
 use Rattle.std.specs.Prelude.{IfSome, slice_get, map as each}
 use Rattle.std.specs.Option.{option_map}
+use Rattle.std.proofs.lemmas.List.{length-map}
 use Rattle.std.proofs.lemmas.Option.{slice_get-map}
 use Rattle.bg_types.specs.OperationSet.{size}
 use Rattle.bg_types.specs.declared.op.OpView.TheVariants.{Insert, Erase}
 use Rattle.pending_ops.specs.Waiting.{Waiting, ListsOnce}
 use Rattle.pending_ops.specs.Chains.{insertion_of}
 use Rattle.pending_ops.proofs.Tables.{IsDistinct-id_eq, keys_of, lookup-id_eq}
-use Rattle.pending_ops.proofs.Listing.{length-each, len-from_list, len-insertions_of, lists_once, slice_get-left, slice_get-right, slice_get_none}
+use Rattle.pending_ops.proofs.Listing.{len-from_list, len-insertions_of, lists_once, slice_get-left, slice_get-right, slice_get_none}
 use Rattle.pending_ops.proofs.held.Held.nth.Goals as goal
 
 pub prove-unreachable-requires : goal.prove-unreachable-requires
@@ -52,7 +53,7 @@ returns-in-None-clause-listed c =
     let erased = c.self.inside.erased.keys in
     ap (λ (w : Waiting). slice_get w.listed c.args.j) (sym c.self.view_is)
     ∙ slice_get-right (each insertion_of slots) (each Erase erased) c.args.j (c.args.j - c.len-insertions.result) (Erase c.index.result.now)
-    (let n = length-each insertion_of slots in let m = c.len-insertions.ensures.len in let past : length slots ≤ c.args.j = slice_get_none slots c.args.j (sym c.in-None.ensures.entry) in omega arith)
+    (let n = length-map slots insertion_of in let m = c.len-insertions.ensures.len in let past : length slots ≤ c.args.j = slice_get_none slots c.args.j (sym c.in-None.ensures.entry) in omega arith)
     (slice_get-map Erase erased _ ∙ ap (option_map Erase) c.index.ensures)
     ∙ ap Some (sym c.erase.ensures.value)
 
