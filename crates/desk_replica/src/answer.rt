@@ -19,7 +19,7 @@ pub enum Taken {
 }
 
 /// Why a desk refused an operation. Each prints its bare name.
-#[derive(Clone, Copy, Debug, PartialEq, Eq, Hash, Error)]
+#[derive(Clone, Copy, Debug, PartialEq, Eq, Error)]
 pub enum TakeFault {
     /// An insertion whose identifier the desk has with another parent or character.
     #[error("IdentifierReused")]
@@ -46,14 +46,14 @@ impl TakeFault {
 }
 
 /// Why operations in order were not all taken: how many of them were, and why the next one was refused.
-#[derive(Clone, Copy, Debug, PartialEq, Eq, Hash)]
+#[derive(Clone, Copy, Debug, PartialEq, Eq)]
 pub struct Stopped {
     pub taken: usize,
     pub fault: TakeFault,
 }
 
 /// Why a desk made no operation. Each prints its bare name.
-#[derive(Clone, Copy, Debug, PartialEq, Eq, Hash, Error)]
+#[derive(Clone, Copy, Debug, PartialEq, Eq, Error)]
 pub enum TypeFault {
     /// The next counter is above 4,294,967,295.
     #[error("CounterSpent")]

@@ -32,7 +32,7 @@ pub struct World<S: Fresh> {
 }
 
 /// Why there is no world. Each prints its bare name.
-#[derive(Clone, Copy, Debug, PartialEq, Eq, Hash, Error)]
+#[derive(Clone, Copy, Debug, PartialEq, Eq, Error)]
 pub enum WorldFault {
     /// A site is 0, or comes twice.
     #[error("BadSites")]
