@@ -44,11 +44,6 @@ pub fn union_law()
     ensures idempotent { (s : OperationSet) → union s s ≡ s }
 {}
 
-/// A set with all operations of another one has at least as many.
-pub fn size_of_more()
-    ensures { (s t : OperationSet) → ((op : OpView) → Holds s op → Holds t op) → size s ≤ size t }
-{}
-
 /// A list of operations has one set, whatever their order and repeats.
 pub fn one_set()
     ensures { (ops : List OpView) (s t : OperationSet) → IsSetOf ops s → IsSetOf ops t → s ≡ t }
