@@ -1,5 +1,6 @@
 -- What is answered to a new operation.
 use Rattle.std.proofs.Common.{◌≡◌, ◌≤◌, ◌+◌, ◌-◌, ℕ, Bool, true, false, cond, length, Option, None, Some, sym, ap, subst, ◌∙◌, refl, true≢false, is_some, arith}
+use Rattle.std.proofs.lemmas.List.{length-map}
 use Rattle.std.specs.Prelude.{◌||◌, OnErr, Result, Ok, Err}
 use Rattle.std.specs.FinMap as map
 use Rattle.std.specs.FinSet as set
@@ -23,7 +24,6 @@ use Rattle.desk_replica.specs.declared.answer.Taken.TheVariants.{Placed}
 use Rattle.desk_replica.proofs.Whole.{some_not, contains-union}
 use Rattle.desk_replica.proofs.Settled.{walk-whole, placed_attached, attached_placed}
 use Rattle.desk_replica.proofs.FirstTurn.{nothing_kept, not_held, union-held}
-use Rattle.desk_replica.proofs.Lists.{length-each}
 
 -- a sequence keeps these of its content
 pub record IsContent (t : OperationSet) : Type 0 where
@@ -32,7 +32,7 @@ pub record IsContent (t : OperationSet) : Type 0 where
   pub only : OnlyErasesPlaced t
 
 pub length-elements : (t : OperationSet) → length (elements t) ≡ attached_count t
-length-elements t = length-each _ (walk t Root)
+length-elements t = length-map (walk t Root) _
 
 pub count-whole : (t : OperationSet) (w : Waiting) → IsContent t → IsSettled t w → attached_count (whole t w) ≡ attached_count t
 count-whole t w c d = ap length (walk-whole t w.held c.well d.well_formed c.tree c.only d.parted)

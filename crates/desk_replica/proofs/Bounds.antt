@@ -1,5 +1,6 @@
 -- How many elements and characters there are at most, and that nothing is listed where nothing is held.
 use Rattle.std.proofs.Common.{◌≡◌, ◌≤◌, ◌+◌, ℕ, zero, suc, Bool, true, false, not, List, [], ◌∷◌, length, take, None, Some, sym, ap, subst, ◌∙◌, refl, true≢false, is_some, arith}
+use Rattle.std.proofs.lemmas.List.{length-map}
 use Rattle.std.specs.Prelude.{◌||◌, ◌&&◌, slice_get, map as each}
 use Rattle.std.proofs.lemmas.Bool.{or_parts}
 use Rattle.std.proofs.lemmas.List.Sums.{length-filter, count_by-le-length}
@@ -19,7 +20,6 @@ use Rattle.pending_ops.specs.Chains.{AreApart, is_in}
 use Rattle.pending_ops.proofs.Interface.{IsDistinct-apart, contains-from_list, len-from_list}
 use Rattle.desk_replica.proofs.Whole.{some_not}
 use Rattle.desk_replica.proofs.Sizes.{len_set-map, of_map}
-use Rattle.desk_replica.proofs.Lists.{length-each}
 
 listed_in : (q : Identifier) (es : List Entry) → is_in (each (λ e. e.0) es) q ≡ is_listed q es
 listed_in q [] = refl
@@ -39,7 +39,7 @@ walk_within s well =
     let apart = IsDistinct-apart ids (IsDistinct-walked s well) in
     let le = len_set-map (set.from_list ids) s.ins (λ q h. walked_inserted s q (sym (contains-from_list ids q) ∙ h)) in
     let l0 = len-from_list ids apart in
-    let l1 = length-each (λ (e : Entry). e.0) (walk s Root) in
+    let l1 = length-map (walk s Root) (λ (e : Entry). e.0) in
     omega arith
 
 -- keys of a map, and others that are listed
@@ -63,7 +63,7 @@ set_beside (x ∷ xs) m apart listed below beside =
 -- a text has no more characters than there are operations
 pub text_within : (s : OperationSet) → AllWellFormed s → length (text s) ≤ size s
 text_within s well =
-    let characters = length-each (λ (e : Entry). e.1.ch) (visible s) in
+    let characters = length-map (visible s) (λ (e : Entry). e.1.ch) in
     let kept = length-filter (λ (e : Entry). not (is_erased s e.0)) (walk s Root) in
     let some = count_by-le-length (λ (e : Entry). not (is_erased s e.0)) (walk s Root) in
     let all = walk_within s well in

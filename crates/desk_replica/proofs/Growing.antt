@@ -6,7 +6,7 @@ use Rattle.std.specs.FinMap as map
 use Rattle.std.specs.FinSet as set
 use Rattle.std.proofs.lemmas.Bool.{and_parts}
 use Rattle.std.proofs.lemmas.Option.{slice_get-get_or}
-use Rattle.std.proofs.lemmas.List.{get_or_default}
+use Rattle.std.proofs.lemmas.List.{get_or_default, take_all}
 use Rattle.std.proofs.lemmas.List.Elements.{All-append, All-cons, All-head, All-nil, All-tail, Contains-append_left, Contains-append_right, Contains-append_cases}
 use Rattle.bg_types.specs.Identifier.{Identifier, id_cmp, same_id}
 use Rattle.bg_types.specs.OperationSet.{OperationSet, Node, AllWellFormed, Holds, MayJoin, union, with_operation, size}
@@ -35,7 +35,6 @@ use Rattle.desk_replica.proofs.Bounds.{walked_inserted}
 use Rattle.desk_replica.proofs.ElementPlaces.{element_at}
 use Rattle.desk_replica.proofs.Hearing.{room_left, room_within, told_grows}
 use Rattle.desk_replica.proofs.InTurn.{joined, joined_split, rest_from, split_at, take_behind, take_push}
-use Rattle.desk_replica.proofs.Lists.{take_all}
 use Rattle.desk_replica.proofs.Rows.{deletions-append, hidden_one, insertions-append}
 
 -- what one list has another one has too
@@ -144,7 +143,7 @@ shows_erased s u same part id h =
 -- ---- lists
 
 pub all_done : {X : Type 0} (P : X → Type 0) (xs : List X) (j : ℕ) → length xs ≤ j → All P (take j xs) → All P xs
-all_done P xs j long done = subst (All P) (take_all xs j long) done
+all_done P xs j long done = subst (All P) (take_all j xs long) done
 
 -- what is told of a row in the middle
 module _ (tell : List Element → List OpView) (tell-append : (xs ys : List Element) → tell (xs ++ ys) ≡ tell xs ++ tell ys) where

@@ -1,5 +1,6 @@
 -- Room for what is told, and what is asked of the calls that tell.
 use Rattle.std.proofs.Common.{◌≡◌, ◌≤◌, ◌<◌, ◌+◌, ◌-◌, ℕ, zero, suc, Bool, true, false, cond, not, List, [], ◌∷◌, length, Option, None, Some, inl, inr, sym, ap, subst, ◌∙◌, refl, true≢false, is_some, arith, length-append}
+use Rattle.std.proofs.lemmas.List.{length-map}
 use Rattle.std.specs.Prelude.{◌||◌, Result, Ok, Err, MatchResult, OnOk, OnErr, IfErr, filter, ◌&&◌, ◌⊎◌}
 use Rattle.std.specs.Option.{option_map_or}
 use Rattle.std.proofs.lemmas.Bool.{and_parts}
@@ -34,7 +35,6 @@ use Rattle.desk_replica.specs.Listening.{HasRoom, HasRoomBelow, HasRoomFor, IsHe
 use Rattle.desk_replica.specs.Telling.{IsUntaken, ShowsAll, TellsAtMost, changes_of, is_shown, most_told, seen_count, waiting_count}
 use Rattle.desk_replica.proofs.Admitting.{IsContent}
 use Rattle.desk_replica.proofs.Bounds.{walk_within, walked_inserted, set_beside}
-use Rattle.desk_replica.proofs.Lists.{length-each}
 use Rattle.desk_replica.proofs.Loop.{none_ready}
 use Rattle.desk_replica.proofs.Settled.{attached_placed, there, whole_formed}
 use Rattle.desk_replica.proofs.Sizes.{len_set-map, len_set-set}
@@ -141,7 +141,7 @@ module _ (told : Option (List Change)) (capacity : ℕ) (t : OperationSet) (w : 
       let n = there (map.get w.held.ins q) k in
       (ap is_some (held_in q n.0 n.1), unattached s formed q (λ at. apart_from q n.0 n.1 (attached_placed t w.held c.well d.well_formed c.tree c.only d.parted q at)))) in
       let all = walk_within s formed in
-      let l = length-each (λ (e : Entry). e.0) (walk s Root) in
+      let l = length-map (walk s Root) (λ (e : Entry). e.0) in
       room_within told capacity (set.len below + 1) (waiting_count s + 1) (omega (arith, few, all, l)) h
     where
       apart_from : (q : Identifier) (n : Node) → map.get w.held.ins q ≡ Some n → map.contains_key t.ins q ≡ true → ⊥

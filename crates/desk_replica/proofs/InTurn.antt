@@ -1,12 +1,11 @@
 -- Rows that are read one after the other, and the parts that they are in.
 use Rattle.std.proofs.Common.{◌≡◌, ◌≤◌, ◌<◌, ◌+◌, ◌++◌, ℕ, List, [], ◌∷◌, length, take, drop, get_or, sym, ap, ◌∙◌, append_assoc}
-use Rattle.std.proofs.lemmas.List.{append-nil, take_more, take-append-drop, take_rest, drop_more}
+use Rattle.std.proofs.lemmas.List.{append-nil, take_more, take-append-drop, take_rest, drop_more, take_all}
 use Rattle.std.proofs.Math.Seq.{take-add}
 use Rattle.std.specs.Prelude.{slice_range}
 use Rattle.std.specs.List.{flat_map}
 use Rattle.std.proofs.lemmas.List.Concat.{flat_map-append}
 use Rattle.rga_tree.specs.declared.element.Element.{Element}
-use Rattle.desk_replica.proofs.Lists.{take_all}
 
 -- ---- lists
 
@@ -40,4 +39,4 @@ joined_split parts p row within is =
     ∙ ap (λ r. joined (take p parts) ++ r ++ joined (drop (p + 1) parts)) (sym is)
 
 pub joined_all : (parts : List (List Element)) (p : ℕ) → length parts ≤ p → joined (take p parts) ≡ joined parts
-joined_all parts p long = ap joined (take_all parts p long)
+joined_all parts p long = ap joined (take_all p parts long)

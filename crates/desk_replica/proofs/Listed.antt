@@ -1,5 +1,6 @@
 -- The list of a desk has each of its operations once.
 use Rattle.std.proofs.Common.{◌≡◌, ◌<◌, ◌+◌, ◌++◌, ℕ, zero, suc, Bool, true, false, cond, List, [], ◌∷◌, length, Option, None, Some, sym, ap, subst, ◌∙◌, refl, true≢false, is_some, arith, length-append, inl, inr}
+use Rattle.std.proofs.lemmas.List.{length-map}
 use Rattle.std.specs.Prelude.{◌⊎◌, ◌||◌, slice_get, filter, map as each}
 use Rattle.std.specs.FinMap as map
 use Rattle.std.specs.FinSet as set
@@ -17,7 +18,7 @@ use Rattle.rga_tree.specs.Row.{hidden_ids, ids_of}
 use Rattle.rga_tree.proofs.Interface.{Entry, IsDistinct-walked, IsAttached-tree, listed-attached}
 use Rattle.pending_ops.specs.Chains.{AreApart, is_in}
 use Rattle.pending_ops.specs.Waiting.{Waiting, ListsOnce}
-use Rattle.pending_ops.proofs.Interface.{IsDistinct-apart, one_place}
+use Rattle.pending_ops.proofs.Interface.{IsDistinct-apart, one_place, slice_get-left, slice_get_either}
 use Rattle.desk_replica.specs.Desk.{Desk, insertion_of}
 use Rattle.desk_replica.specs.Listed.{listed}
 use Rattle.desk_replica.specs.Placement.{IsSettled, waiting_in, whole}
@@ -25,7 +26,7 @@ use Rattle.desk_replica.proofs.Whole.{contains-union, first_none, some_not, whic
 use Rattle.desk_replica.proofs.Settled.{elements-whole, in_whole, there}
 use Rattle.desk_replica.proofs.Admitting.{IsContent}
 use Rattle.desk_replica.proofs.Desks.{desk_of}
-use Rattle.desk_replica.proofs.Lists.{slice_get-left, slice_get-right, slice_get-from, slice_get-to, slice_get-take, length-each}
+use Rattle.desk_replica.proofs.Lists.{slice_get-right, slice_get-from, slice_get-to, slice_get-take}
 use Rattle.desk_replica.proofs.ElementPlaces.{element_at, element_for}
 use Rattle.desk_replica.proofs.OnceEach.{Lists, Once, lists_size}
 use Rattle.std.proofs.lemmas.Bool.{or_left, or_right}
@@ -95,12 +96,6 @@ ids_elements t [] = refl
 ids_elements t (e ∷ es) = ap (λ xs. e.0 ∷ xs) (ids_elements t es)
 
 -- ---- what each place of the list holds
-
--- a place of two lists in a row is a place of one of them
-slice_get_either : (xs ys : List OpView) (j : ℕ) (x : OpView) → slice_get (xs ++ ys) j ≡ Some x → (slice_get xs j ≡ Some x) ⊎ ((k : ℕ) × ((j ≡ length xs + k) × (slice_get ys k ≡ Some x)))
-slice_get_either [] ys j x h = inr (j, (omega arith, h))
-slice_get_either (z ∷ zs) ys zero x h = inl h
-slice_get_either (z ∷ zs) ys (suc j) x h = elim (slice_get_either zs ys j x h) [ inl here ↦ inl here | inr there ↦ inr (there.0, (let e = there.1.0 in omega arith, there.1.1)) ]
 
 abbrev pub listed_by : List Element → List OpView → List OpView
 listed_by row waiting = each insertion_of row ++ each Erase (hidden_ids row) ++ waiting
@@ -263,8 +258,8 @@ module _ (t : OperationSet) (w : Waiting) (site spare : ℕ) (d : Desk) (c : IsC
       let late = lists.all in
       let a = length-append (each insertion_of (elements t) ++ each Erase (hidden_ids (elements t))) (waiting_in w) in
       let b = length-append (each insertion_of (elements t)) (each Erase (hidden_ids (elements t))) in
-      let l0 = length-each insertion_of (elements t) in
-      let l1 = length-each Erase (hidden_ids (elements t)) in
+      let l0 = length-map (elements t) insertion_of in
+      let l1 = length-map (hidden_ids (elements t)) Erase in
       omega arith
 
   pub listed_insertion : (j : ℕ) (e : Element) → slice_get (elements t) j ≡ Some e → slice_get (listed d) j ≡ Some (insertion_of e)
@@ -276,7 +271,7 @@ module _ (t : OperationSet) (w : Waiting) (site spare : ℕ) (d : Desk) (c : IsC
   pub listed_deletion : (j k : ℕ) (q : Identifier) → slice_get (hidden_ids (elements t)) k ≡ Some q → j ≡ length (elements t) + k → slice_get (listed d) j ≡ Some (Erase q)
   listed_deletion j k q h at =
       let row = elements t in
-      let l = length-each insertion_of row in
+      let l = length-map row insertion_of in
       ap (λ xs. slice_get xs j) (sym listed_is)
       ∙ slice_get-left (each insertion_of row ++ each Erase (hidden_ids row)) (waiting_in w) j _
       (slice_get-right (each insertion_of row) (each Erase (hidden_ids row)) k j (omega arith) ∙ slice_get-to Erase (hidden_ids row) k q h)
@@ -284,8 +279,8 @@ module _ (t : OperationSet) (w : Waiting) (site spare : ℕ) (d : Desk) (c : IsC
   pub listed_late : (j k : ℕ) (op : OpView) → slice_get w.listed k ≡ Some op → k < size w.held → j ≡ length (elements t) + length (hidden_ids (elements t)) + k → slice_get (listed d) j ≡ Some op
   listed_late j k op h within at =
       let row = elements t in
-      let l0 = length-each insertion_of row in
-      let l1 = length-each Erase (hidden_ids row) in
+      let l0 = length-map row insertion_of in
+      let l1 = length-map (hidden_ids row) Erase in
       let l2 = length-append (each insertion_of row) (each Erase (hidden_ids row)) in
       ap (λ xs. slice_get xs j) (sym listed_is)
       ∙ slice_get-right (each insertion_of row ++ each Erase (hidden_ids row)) (waiting_in w) k j (omega arith) ∙ slice_get-take w.listed (size w.held) k within ∙ h

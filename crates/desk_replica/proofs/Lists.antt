@@ -3,21 +3,7 @@ use Rattle.std.proofs.Common.{◌≡◌, ◌≤◌, ◌<◌, ◌+◌, ◌++◌, 
 use Rattle.std.specs.Prelude.{slice_get, map as each}
 use Rattle.std.specs.Option.{option_map}
 use Rattle.std.specs.List.{AllByRecursion}
-use Rattle.std.proofs.lemmas.Option.{slice_get_within}
-
-pub slice_get-each : {X Y : Type 0} (f : X → Y) (xs : List X) (k : ℕ) → slice_get (each f xs) k ≡ option_map f (slice_get xs k)
-slice_get-each f [] k = refl
-slice_get-each f (x ∷ xs) zero = refl
-slice_get-each f (x ∷ xs) (suc k) = slice_get-each f xs k
-
-pub slice_get-left : {X : Type 0} (xs ys : List X) (k : ℕ) (x : X) → slice_get xs k ≡ Some x → slice_get (xs ++ ys) k ≡ Some x
-slice_get-left [] ys k x h = absurd (none k h)
-  where
-    none : (k : ℕ) → slice_get [] k ≡ Some x → ⊥
-    none zero h = absurd cc
-    none (suc k) h = absurd cc
-slice_get-left (y ∷ xs) ys zero x h = h
-slice_get-left (y ∷ xs) ys (suc k) x h = slice_get-left xs ys k x h
+use Rattle.std.proofs.lemmas.Option.{slice_get-map, slice_get_within}
 
 pub slice_get-right : {X : Type 0} (xs ys : List X) (k n : ℕ) → n ≡ length xs + k → slice_get (xs ++ ys) n ≡ slice_get ys k
 slice_get-right [] ys k n e = ap (slice_get ys) (omega arith)
@@ -26,14 +12,14 @@ slice_get-right (y ∷ xs) ys k (suc n) e = slice_get-right xs ys k n (omega ari
 
 -- what a mapped list has comes from the list
 pub slice_get-from : {X Y : Type 0} (f : X → Y) (xs : List X) (k : ℕ) (y : Y) → slice_get (each f xs) k ≡ Some y → (x : X) × ((slice_get xs k ≡ Some x) × (f x ≡ y))
-slice_get-from f xs k y h = by (slice_get xs k) refl (sym (slice_get-each f xs k) ∙ h)
+slice_get-from f xs k y h = by (slice_get xs k) refl (sym (slice_get-map f xs k) ∙ h)
   where
     by : (o : _) → slice_get xs k ≡ o → option_map f o ≡ Some y → (x : _) × ((slice_get xs k ≡ Some x) × (f x ≡ y))
     by None e h = absurd cc
     by (Some x) e h = let same : f x ≡ y = cc in (x, (e, same))
 
 pub slice_get-to : {X Y : Type 0} (f : X → Y) (xs : List X) (k : ℕ) (x : X) → slice_get xs k ≡ Some x → slice_get (each f xs) k ≡ Some (f x)
-slice_get-to f xs k x h = slice_get-each f xs k ∙ ap (option_map f) h
+slice_get-to f xs k x h = slice_get-map f xs k ∙ ap (option_map f) h
 
 pub slice_get-within : {X : Type 0} (xs : List X) (k : ℕ) → k < length xs → (x : X) × (slice_get xs k ≡ Some x)
 slice_get-within [] k h = absurd (omega arith)
@@ -45,26 +31,8 @@ all_at P [] k x a h = absurd (let w = slice_get_within [] k x h in omega arith)
 all_at P (y ∷ xs) zero x a h = let e : y ≡ x = cc in subst P e a.0
 all_at P (y ∷ xs) (suc k) x a h = all_at P xs k x a.1 h
 
-pub length-each : {X Y : Type 0} (f : X → Y) (xs : List X) → length (each f xs) ≡ length xs
-length-each f [] = refl
-length-each f (x ∷ xs) = ap (λ n. suc n) (length-each f xs)
-
-pub take_all : {X : Type 0} (xs : List X) (n : ℕ) → length xs ≤ n → take n xs ≡ xs
-take_all [] zero h = refl
-take_all [] (suc n) h = refl
-take_all (x ∷ xs) zero h = absurd (omega arith)
-take_all (x ∷ xs) (suc n) h = ap (λ l. x ∷ l) (take_all xs n (omega arith))
-
 pub slice_get-take : {X : Type 0} (xs : List X) (n k : ℕ) → k < n → slice_get (take n xs) k ≡ slice_get xs k
 slice_get-take xs zero k h = absurd (omega arith)
 slice_get-take [] (suc n) k h = refl
 slice_get-take (x ∷ xs) (suc n) zero h = refl
 slice_get-take (x ∷ xs) (suc n) (suc k) h = slice_get-take xs n k (omega arith)
-
-take_more : {X : Type 0} (xs : List X) (i : ℕ) (d : X) → i < length xs → take (suc i) xs ≡ take i xs ++ get_or xs i d ∷ []
-take_more [] i d h = absurd (omega arith)
-take_more (x ∷ xs) zero d h = refl
-take_more (x ∷ xs) (suc i) d h = ap (λ l. x ∷ l) (take_more xs i d (omega arith))
-
-pub take-next : {X : Type 0} (xs : List X) (i : ℕ) (d : X) → i < length xs → take (i + 1) xs ≡ take i xs ++ get_or xs i d ∷ []
-take-next xs i d h = let next : i + 1 ≡ suc i = omega arith in ap (λ n. take n xs) next ∙ take_more xs i d h

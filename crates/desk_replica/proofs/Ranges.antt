@@ -2,7 +2,7 @@
 use Rattle.std.proofs.Common.{◌≡◌, ◌≤◌, ◌<◌, ◌+◌, ◌-◌, ℕ, zero, suc, true, false, cond, not, List, [], ◌∷◌, ◌++◌, length, take, drop, Some, None, refl, sym, ap, subst, ◌∙◌, append_assoc, is_some, arith}
 use Rattle.std.specs.Prelude.{All, slice_get, filter, remove, map as each}
 use Rattle.std.specs.List.{AllByRecursion, flat_map}
-use Rattle.std.proofs.lemmas.List.{take-append-drop, map-append, take-map, drop-map}
+use Rattle.std.proofs.lemmas.List.{take-append-drop, map-append, take-map, drop-map, length-map}
 use Rattle.std.proofs.lemmas.List.Elements.{All-from_recursion}
 use Rattle.bg_types.specs.Identifier.{Identifier}
 use Rattle.bg_types.specs.OperationSet.{OperationSet, AllWellFormed, next, size, with_operation}
@@ -25,7 +25,7 @@ use Rattle.desk_replica.specs.Replacement.{MayHide, deletions}
 use Rattle.desk_replica.specs.Merging.{with_operations}
 use Rattle.desk_replica.proofs.Admitting.{hidden_settled, hidden_whole}
 use Rattle.desk_replica.proofs.Erasing.{next_erased, visible_kept}
-use Rattle.desk_replica.proofs.Lists.{length-each, slice_get-within}
+use Rattle.desk_replica.proofs.Lists.{slice_get-within}
 use Rattle.desk_replica.proofs.Typed.{each-remove}
 use Rattle.desk_replica.proofs.Typing.{visible_erased, erasure_new}
 
@@ -63,13 +63,13 @@ within-at (y ∷ xs) zero x h = omega arith
 within-at (y ∷ xs) (suc k) x h = omega (arith, within-at xs k x h)
 
 pub visible_at : (s : OperationSet) (k : ℕ) (x : Identifier) → slice_get (visible_ids s) k ≡ Some x → k < length (visible s)
-visible_at s k x at = omega (arith, within-at (visible_ids s) k x at, length-each (λ (e : Entry). e.0) (visible s))
+visible_at s k x at = omega (arith, within-at (visible_ids s) k x at, length-map (visible s) (λ (e : Entry). e.0))
 
 module _ (k : ℕ) where
   pub erased_then : (n : ℕ) (s : OperationSet) (x : Identifier) → AllWellFormed s → k < length (visible s) → slice_get (visible_ids s) k ≡ Some x → deletions s k (suc n) ≡ Erase x ∷ deletions (with_operation s (Erase x)) k n
   erased_then n s x well lt at =
       let ids : visible_ids (with_operation s (Erase x)) ≡ remove (visible_ids s) k = ap (each (λ (e : Entry). e.0)) (visible_erased s k x well at) ∙ each-remove (λ (e : Entry). e.0) (visible s) k in
-      let many = length-each (λ (e : Entry). e.0) (visible s) in
+      let many = length-map (visible s) (λ (e : Entry). e.0) in
       let rest : drop (suc k) (visible_ids s) ≡ drop k (visible_ids (with_operation s (Erase x))) =
       sym (drop-remove (visible_ids s) k k (omega (arith, many, lt)) (omega arith)) ∙ ap (drop k) (sym ids) in
       ap (λ l. each Erase (take (suc n) l)) (drop-at (visible_ids s) k x at) ∙ ap (λ l. Erase x ∷ each Erase (take n l)) rest
@@ -120,7 +120,7 @@ erased zero s k well within =
     }
 erased (suc n) s k well within =
     let there : k < length (visible s) = omega (arith, within) in
-    let x = slice_get-within (visible_ids s) k (omega (arith, there, length-each (λ (e : Entry). e.0) (visible s))) in
+    let x = slice_get-within (visible_ids s) k (omega (arith, there, length-map (visible s) (λ (e : Entry). e.0))) in
     one_less s k n well there x.0 x.1
     (erased n (with_operation s (Erase x.0)) k (well_then s k n well there x.0 x.1) (within_then s k n well there x.0 x.1 within))
 
@@ -135,7 +135,7 @@ ids_from ids k (suc n) P within each_is =
 -- a fact of each deletion of a visible character is one of all of them
 pub all_deletions : (s : OperationSet) (k n : ℕ) (P : OpView → Type 0) → k + n ≤ length (visible s) → ((j : ℕ) (x : Identifier) → slice_get (visible_ids s) j ≡ Some x → P (Erase x)) → All P (deletions s k n)
 all_deletions s k n P within each_is =
-    All-from_recursion P (deletions s k n) (ids_from (visible_ids s) k n P (omega (arith, within, length-each (λ (e : Entry). e.0) (visible s))) each_is)
+    All-from_recursion P (deletions s k n) (ids_from (visible_ids s) k n P (omega (arith, within, length-map (visible s) (λ (e : Entry). e.0))) each_is)
 
 pub may_hide : (t : OperationSet) (k n : ℕ) → k + n ≤ length (visible t) → All (MayHide t) (deletions t k n)
 may_hide t k n within = all_deletions t k n (MayHide t) within (λ j x at. ap is_some (visible_kept t j x at).1)

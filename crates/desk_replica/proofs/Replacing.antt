@@ -6,7 +6,7 @@ use Rattle.std.specs.FinMap as map
 use Rattle.std.specs.FinSet as set
 use Rattle.std.specs.List.{AllByRecursion}
 use Rattle.std.proofs.lemmas.List.Elements.{All-append, All-from_recursion, recursion_from_All}
-use Rattle.std.proofs.lemmas.List.{take_at, drop_at, length-take-le, map-append, take-map, drop-map}
+use Rattle.std.proofs.lemmas.List.{take_at, drop_at, length-take-le, map-append, take-map, drop-map, length-map}
 use Rattle.bg_types.specs.Identifier.{Identifier}
 use Rattle.bg_types.specs.WellFormed.{IsWellFormed, MayFollow}
 use Rattle.bg_types.specs.OperationSet.{OperationSet, Holds, AllWellFormed, union, next, size}
@@ -19,6 +19,7 @@ use Rattle.rga_tree.specs.Tree.{stands_in}
 use Rattle.rga_tree.specs.TextOf.{text, visible, visible_ids}
 use Rattle.rga_tree.proofs.Interface.{Entry}
 use Rattle.pending_ops.specs.Waiting.{Waiting}
+use Rattle.pending_ops.proofs.Interface.{slice_get-left}
 use Rattle.desk_replica.specs.Desk.{Desk}
 use Rattle.desk_replica.specs.Placement.{IsSettled, IsCounted, whole}
 use Rattle.desk_replica.specs.Typing.{parent_at}
@@ -29,7 +30,7 @@ use Rattle.desk_replica.specs.Merging.{with_operations}
 use Rattle.desk_replica.proofs.Admitting.{IsContent}
 use Rattle.desk_replica.proofs.Desks.{desk_of}
 use Rattle.desk_replica.proofs.Erasing.{visible_kept}
-use Rattle.desk_replica.proofs.Lists.{length-each, slice_get-within, slice_get-left, slice_get-take}
+use Rattle.desk_replica.proofs.Lists.{slice_get-within, slice_get-take}
 use Rattle.desk_replica.proofs.Ranges.{IsErased, erased, all_deletions, target_formed, hidden_whole_all, hidden_settled_all, stands_still, text_cut}
 use Rattle.desk_replica.proofs.Settled.{visible-whole, AllWellFormed-union}
 use Rattle.desk_replica.proofs.Stretches.{IsPlacedAll, text_stretch, typed_whole, typed_size, typed_next}
@@ -44,7 +45,7 @@ with_operations-append (x ∷ xs) ys s = with_operations-append xs ys _
 pub parent_stands : (t : OperationSet) (k : ℕ) → k ≤ length (visible t) → stands_in t (parent_at (visible_ids t) k) ≡ true
 parent_stands t zero within = refl
 parent_stands t (suc j) within =
-    let x = slice_get-within (visible_ids t) j (omega (arith, within, length-each (λ (e : Entry). e.0) (visible t))) in
+    let x = slice_get-within (visible_ids t) j (omega (arith, within, length-map (visible t) (λ (e : Entry). e.0))) in
     ap (λ o. stands_in t (option_map_or After o Root)) x.1 ∙ ap is_some (visible_kept t j x.0 x.1).1
 
 all_right : (P : OpView → Type 0) (xs ys : List OpView) → AllByRecursion P (xs ++ ys) → AllByRecursion P ys
@@ -74,7 +75,7 @@ module _ (s : OperationSet) (k n : ℕ) (well : AllWellFormed s) (within : k + n
           let f = λ (e : Entry). e.0 in
           let ids : visible_ids rest ≡ take k (visible_ids s) ++ drop (k + n) (visible_ids s) =
           ap (each f) cut.visible_is ∙ map-append f (take k (visible s)) (drop (k + n) (visible s)) ∙ (λ i. sym (take-map f k (visible s)) i ++ sym (drop-map f (k + n) (visible s)) i) in
-          let x = slice_get-within (visible_ids s) j (omega (arith, lt, within, length-each f (visible s))) in
+          let x = slice_get-within (visible_ids s) j (omega (arith, lt, within, length-map (visible s) f)) in
           let here = slice_get-take (visible_ids s) k j lt ∙ x.1 in
           ap (λ l. slice_get l j) ids ∙ slice_get-left (take k (visible_ids s)) (drop (k + n) (visible_ids s)) j x.0 here ∙ sym x.1
 
@@ -93,7 +94,7 @@ module _ (s : OperationSet) (k n : ℕ) (well : AllWellFormed s) (within : k + n
       let front = take k (text s) in
       let back = drop (k + n) (text s) in
       let read : text rest ≡ front ++ back = text_cut s rest k (k + n) cut.visible_is in
-      let long : length front ≡ k = length-take-le k (text s) (omega (arith, within, length-each (λ (e : Entry). e.1.ch) (visible s))) in
+      let long : length front ≡ k = length-take-le k (text s) (omega (arith, within, length-map (visible s) (λ (e : Entry). e.1.ch))) in
       ap text (with_operations-append (deletions s k n) (typed_text rest site k chs) s)
       ∙ text_stretch site chs rest k cut.well within_rest formed
       ∙ (λ i. take k (read i) ++ (chs ++ drop k (read i)))

@@ -7,9 +7,10 @@ use Rattle.bg_types.specs.Identifier.{Identifier}
 use Rattle.bg_types.specs.declared.op.OpView.TheVariants.{Erase}
 use Rattle.rga_tree.specs.declared.element.Element.{Element}
 use Rattle.rga_tree.specs.Row.{hidden_ids}
+use Rattle.pending_ops.proofs.Interface.{slice_get-left}
 use Rattle.desk_replica.specs.Desk.{insertion_of}
 use Rattle.desk_replica.specs.Listed.{insertions_in, deletions_in}
-use Rattle.desk_replica.proofs.Lists.{slice_get-left, slice_get-right}
+use Rattle.desk_replica.proofs.Lists.{slice_get-right}
 
 pub insertions-append : (xs ys : List Element) → insertions_in (xs ++ ys) ≡ insertions_in xs ++ insertions_in ys
 insertions-append xs ys = map-append insertion_of xs ys

@@ -6,7 +6,7 @@ use Rattle.std.specs.FinMap as map
 use Rattle.std.specs.List.{AllByRecursion}
 use Rattle.std.specs.Str.{chars, IsUtf8}
 use Rattle.std.proofs.lemmas.Str.{encodes-chars}
-use Rattle.std.proofs.lemmas.List.{take-append-drop}
+use Rattle.std.proofs.lemmas.List.{take-append-drop, length-map}
 use Rattle.std.proofs.lemmas.List.Elements.{All-nil, All-cons, All-head}
 use Rattle.bg_types.specs.Identifier.{Identifier}
 use Rattle.bg_types.specs.WellFormed.{IsWellFormed, MayFollow}
@@ -29,7 +29,6 @@ use Rattle.desk_replica.proofs.Admitting.{IsContent}
 use Rattle.desk_replica.proofs.Counters.{newest-is_new}
 use Rattle.desk_replica.proofs.FirstTurn.{nothing_kept}
 use Rattle.desk_replica.proofs.Leaf.{length-put}
-use Rattle.desk_replica.proofs.Lists.{length-each}
 use Rattle.desk_replica.proofs.Typed.{each-insert}
 use Rattle.desk_replica.proofs.Typing.{content, parted, same_set}
 use Rattle.desk_replica.proofs.WorldTyped.{visible_typed}
@@ -98,10 +97,10 @@ module _ (site : ℕ) where
     ids = ap (each (λ (e : Entry). e.0)) seen ∙ each-insert (λ (e : Entry). e.0) (visible s) k (id, record { parent = parent; ch = ch })
 
     within : k ≤ length (text s)
-    within = let many = length-each (λ (e : Entry). e.1.ch) (visible s) in omega (arith, many, le)
+    within = let many = length-map (visible s) (λ (e : Entry). e.1.ch) in omega (arith, many, le)
 
     within_ids : k ≤ length (visible_ids s)
-    within_ids = let many = length-each (λ (e : Entry). e.0) (visible s) in omega (arith, many, le)
+    within_ids = let many = length-map (visible s) (λ (e : Entry). e.0) in omega (arith, many, le)
 
     behind : parent_at (visible_ids t) (suc k) ≡ After id
     behind = ap (λ l. option_map_or After (slice_get l k) Root) ids ∙ ap (λ o. option_map_or After o Root) (at-insert (visible_ids s) k id within_ids)

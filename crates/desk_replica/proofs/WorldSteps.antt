@@ -3,7 +3,7 @@ use Rattle.std.proofs.Common.{◌≡◌, ◌<◌, ◌≤◌, ◌+◌, ℕ, List,
 use Rattle.std.specs.Prelude.{slice_get, map as each}
 use Rattle.std.proofs.Math.ListN.{set}
 use Rattle.std.proofs.Math.Seq.{take-append_seam}
-use Rattle.std.proofs.lemmas.List.{get_or-map, length-map}
+use Rattle.std.proofs.lemmas.List.{get_or-map, length-map, take_more}
 use Rattle.bg_types.specs.WellFormed.{IsWellFormed}
 use Rattle.bg_types.specs.OperationSet.{OperationSet, no_operations, with_operation, size}
 use Rattle.bg_types.specs.declared.op.OpView.{OpView}
@@ -19,7 +19,6 @@ use Rattle.desk_replica.specs.Typing.{typed, insertion, IsTypeRefusal, IsErasedA
 use Rattle.desk_replica.specs.WorldStep.{WorldState, WorldStep, site_at, with_made, typed_there}
 use Rattle.desk_replica.specs.WorldRun.{world_of, empty_world, WorldRun, DoStep, DoSteps}
 use Rattle.desk_replica.proofs.DeskLists.{set_at-desk, sets_of-set, sites_of-set}
-use Rattle.desk_replica.proofs.Lists.{take-next}
 
 -- ---- a desk of the list made an operation
 
@@ -91,7 +90,7 @@ pub next_step : (desks mid new : List Desk) (made between more : List OpView) (s
     → all ≡ replies ++ reply ∷ [] → DoSteps desks made (take i steps) mid between replies → DoStep mid between step new more reply → DoSteps desks made (take (i + 1) steps) new more all
 next_step desks mid new made between more steps i d step replies all reply lt is longer before now = record {
   run = subst (λ (l : List Reply). WorldRun (sites_of desks) (world_of desks made) (take (i + 1) steps) l (world_of new more)) (sym longer)
-      (subst (λ (l : List Step). WorldRun (sites_of desks) (world_of desks made) l (replies ++ reply ∷ []) (world_of new more)) (sym (take-next steps i d lt ∙ ap (λ (s : Step). take i steps ++ s ∷ []) (sym is)))
+      (subst (λ (l : List Step). WorldRun (sites_of desks) (world_of desks made) l (replies ++ reply ∷ []) (world_of new more)) (sym (take_more steps i d lt ∙ ap (λ (s : Step). take i steps ++ s ∷ []) (sym is)))
       (run_on (sites_of desks) (world_of desks made) (world_of mid between) (take i steps) replies before.run step reply (world_of new more)
       (subst (λ (l : List ℕ). WorldStep l (world_of mid between) step reply (world_of new more)) before.sites now.done)));
   sites = now.sites ∙ before.sites;

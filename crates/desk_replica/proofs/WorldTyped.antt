@@ -2,7 +2,7 @@
 use Rattle.std.proofs.Common.{◌≡◌, ◌≤◌, ◌+◌, ℕ, zero, suc, Bool, true, false, cond, not, List, [], ◌∷◌, ◌++◌, length, Some, refl, sym, ap, subst, ◌∙◌, arith, append_assoc}
 use Rattle.std.specs.Prelude.{slice_get, filter, insert, map as each}
 use Rattle.std.specs.Option.{option_map_or}
-use Rattle.std.proofs.lemmas.List.{map-append, get_or-set_same}
+use Rattle.std.proofs.lemmas.List.{map-append, get_or-set_same, length-map}
 use Rattle.bg_types.specs.Identifier.{Identifier}
 use Rattle.bg_types.specs.WellFormed.{IsWellFormed}
 use Rattle.bg_types.specs.OperationSet.{Node, OperationSet, AllWellFormed, no_operations, with_operation, next}
@@ -21,7 +21,7 @@ use Rattle.desk_replica.specs.DeskSets.{set_at}
 use Rattle.desk_replica.specs.Typing.{parent_at}
 use Rattle.desk_replica.specs.WorldStep.{WorldState, WorldStep, next_identifier, site_at}
 use Rattle.desk_replica.specs.WorldRun.{IsLater, IsWorld, empty_world}
-use Rattle.desk_replica.proofs.Lists.{slice_get-from, slice_get-within, length-each}
+use Rattle.desk_replica.proofs.Lists.{slice_get-from, slice_get-within}
 use Rattle.desk_replica.proofs.Typed.{each-insert}
 use Rattle.desk_replica.proofs.Typing.{new_del}
 use Rattle.desk_replica.proofs.WorldLaws.{well_formed_there, order_worlds}
@@ -173,7 +173,7 @@ module _ (s : OperationSet) (well : AllWellFormed s) (site ch : ℕ) where
       → visible (with_typed k) ≡ insert (visible s) k (id, record { parent = parent_at (visible_ids s) k; ch = ch })
   visible_typed zero le formed = visible_first formed
   visible_typed (suc k) le formed =
-      let long = length-each (λ (x : Entry). x.0) (visible s) in
+      let long = length-map (visible s) (λ (x : Entry). x.0) in
       let a = slice_get-within (visible_ids s) k (omega (arith, long, le)) in
       visible_behind k a.0 formed a.1
 

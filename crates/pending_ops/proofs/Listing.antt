@@ -53,7 +53,7 @@ module _ {X : Type 0} where
   slice_get-right (z ∷ zs) ys (suc j) k x e h = let less : j ≡ length zs + k = omega arith in slice_get-right zs ys j k x less h
 
   -- a place of two lists in a row is a place of one of them
-  slice_get_either : (xs ys : List X) (j : ℕ) (x : X) → slice_get (xs ++ ys) j ≡ Some x
+  pub slice_get_either : (xs ys : List X) (j : ℕ) (x : X) → slice_get (xs ++ ys) j ≡ Some x
       → (slice_get xs j ≡ Some x) ⊎ ((k : ℕ) × ((j ≡ length xs + k) × (slice_get ys k ≡ Some x)))
   slice_get_either [] ys j x h = inr (j, (omega arith, h))
   slice_get_either (z ∷ zs) ys zero x h = inl h

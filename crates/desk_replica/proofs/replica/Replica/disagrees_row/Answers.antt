@@ -1,12 +1,12 @@
 -- The goals of `disagrees_row` that are answered by hand.
 use Rattle.std.proofs.Common.{◌+◌, take, sym, subst, arith}
+use Rattle.std.proofs.lemmas.List.{take_all}
 use Rattle.std.proofs.lemmas.List.Elements.{All-more, All-same}
 use Rattle.bg_types.specs.OperationSet.{MayJoin}
 use Rattle.rga_tree.specs.declared.element.Element.{Element}
 use Rattle.desk_replica.specs.Desk.{insertion_of}
 use Rattle.bg_types.proofs.Interface.{Holds-may_join}
 use Rattle.desk_replica.proofs.Disagreeing.{known_join, known_joins}
-use Rattle.desk_replica.proofs.Lists.{take_all}
 use Rattle.desk_replica.proofs.replica.Replica.disagrees_row.Goals as goal
 
 pub loop-at-init : goal.loop-at-init
@@ -31,4 +31,4 @@ pub returns-clause-no : goal.returns-clause-no
 returns-clause-no g c =
     let row = c.args.row.now in
     let at = c.loop-at.at in
-    All-same (λ (x : Element). MayJoin c.args.self.now.set (insertion_of x)) row _ (sym (take_all row at (omega (arith, c.loop-at-test.false)))) c.loop-at.invariant.joins
+    All-same (λ (x : Element). MayJoin c.args.self.now.set (insertion_of x)) row _ (sym (take_all at row (omega (arith, c.loop-at-test.false)))) c.loop-at.invariant.joins

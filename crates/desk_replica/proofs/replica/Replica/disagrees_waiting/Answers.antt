@@ -1,11 +1,11 @@
 -- The goals of `disagrees_waiting` that are answered by hand.
 use Rattle.std.proofs.Common.{◌≤◌, length, subst, arith}
+use Rattle.std.proofs.lemmas.List.{take_all}
 use Rattle.std.specs.Prelude.{All}
 use Rattle.std.proofs.lemmas.List.Elements.{All-more}
 use Rattle.bg_types.specs.OperationSet.{MayJoin}
 use Rattle.desk_replica.specs.Placement.{waiting_in}
 use Rattle.desk_replica.proofs.Disagreeing.{agree_waiting, disagree_waiting, waiting_at}
-use Rattle.desk_replica.proofs.Lists.{take_all}
 use Rattle.desk_replica.proofs.replica.Replica.disagrees_waiting.Goals as goal
 
 pub returns-then-reuses-clause-yes : goal.returns-then-reuses-clause-yes
@@ -27,4 +27,4 @@ returns-clause-no g c =
     let lists = c.count_waiting-j-end.ensures.each_once in
     let done = c.loop-j-test.false in
     let long : length (waiting_in w) ≤ c.loop-j.j = omega (arith, lists.all, c.count_waiting-j-end.ensures.count) in
-    agree_waiting s w lists (subst (All (MayJoin s)) (take_all (waiting_in w) c.loop-j.j long) c.loop-j.invariant)
+    agree_waiting s w lists (subst (All (MayJoin s)) (take_all c.loop-j.j (waiting_in w) long) c.loop-j.invariant)

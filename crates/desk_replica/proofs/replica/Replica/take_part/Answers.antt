@@ -1,5 +1,6 @@
 -- The goals of `take_part` that are answered by hand.
 use Rattle.std.proofs.Common.{◌+◌, [], ◌∷◌, sym, subst, ◌∙◌, refl, arith}
+use Rattle.std.proofs.lemmas.List.{take_all}
 use Rattle.std.proofs.lemmas.Result.{err_from_is_err_and}
 use Rattle.std.proofs.lemmas.List.Elements.{All-contains, Contains-get_or}
 use Rattle.std.specs.Prelude.{All, Contains}
@@ -12,7 +13,6 @@ use Rattle.desk_replica.proofs.Disagreeing.{part_contains, part_follows}
 use Rattle.desk_replica.proofs.Growing.{desk_still, desk_then, element_listed, erased_with, held_next, held_passed, listed_alike, stopped_then}
 use Rattle.desk_replica.proofs.Hearing.{heard_more, heard_nothing}
 use Rattle.desk_replica.proofs.Tellings.{stays_shown}
-use Rattle.desk_replica.proofs.Lists.{take_all}
 use Rattle.desk_replica.proofs.replica.Replica.take_part.Goals as goal
 
 pub loop-at-init : goal.loop-at-init
@@ -132,4 +132,4 @@ pub returns-clause-ok : goal.returns-clause-ok
 returns-clause-ok g c =
     let row = c.part-row.result.now in
     let done = c.loop-at-test.false in
-    subst (λ r. All (Holds c.loop-at.self.set) (insertions_in r)) (take_all row c.loop-at.at (omega (arith, done)) ∙ c.part-row.ensures) c.loop-at.invariant.done
+    subst (λ r. All (Holds c.loop-at.self.set) (insertions_in r)) (take_all c.loop-at.at row (omega (arith, done)) ∙ c.part-row.ensures) c.loop-at.invariant.done
