@@ -89,9 +89,6 @@ module _ (t : OperationSet) (w : Waiting) (id : Identifier) (node : Node) (d : I
       cond_false false x y r e = e
 
   module _ (u : OperationSet) (v : Waiting) (p : PlacesIn t w (id, node) u v) where
-    rest_ins : p.rest.held.ins ≡ w.held.ins
-    rest_ins = ap (λ (x : OperationSet). x.ins) p.held
-
     not_rest : (q : Identifier) → is_ready p.rest q ≡ false
     not_rest q = none_ready p.rest (p.released ∙ d.none_released) q
 

@@ -54,9 +54,6 @@ only_listed op x h = by h.0 h.1 h.2
 pub listed_one : (op : OpView) (ops : List OpView) → Contains ops op → IsListedIn (op ∷ []) ops
 listed_one op ops h x only = subst (Contains ops) (only_listed op x only) h
 
-pub none_listed : (ops : List OpView) → IsListedIn [] ops
-none_listed ops op h = absurd (let low = h.1 in omega (arith, low))
-
 -- ---- sets
 
 grown_same : (s u : OperationSet) (ops : List OpView) → u ≡ s → IsGrownBy s ops u
@@ -268,9 +265,6 @@ listed_front e = Contains-append_left (insertion_of e ∷ []) (deletions_in (e �
 
 pub listed_behind : (e : Element) → IsListedIn (deletions_in (e ∷ [])) (operations_in (e ∷ []))
 listed_behind e = Contains-append_right (insertion_of e ∷ []) (deletions_in (e ∷ []))
-
-pub deletion_one : (e : Element) → e.hidden ≡ true → deletions_in (e ∷ []) ≡ Erase e.id ∷ []
-deletion_one e is = ap (each Erase) (hidden_one e is)
 
 -- ---- what is kept, of what is placed and what waits
 

@@ -111,14 +111,6 @@ room_counted told capacity s (Insert id parent ch) n most h = λ below each.
     room_within told capacity (set.len below + 1) n (omega (arith, few, all, is)) h
 room_counted told capacity s (Erase target) n most h = subst (HasRoom told capacity) most h
 
-pub room_exact : (told : Option (List Change)) (capacity : ℕ) (s : OperationSet) (op : OpView) (n : ℕ) → TellsAtMost s op n → HasRoomFor told capacity s op → HasRoom told capacity n
-room_exact told capacity s (Insert id parent ch) n most h =
-    let counts = most.1 in
-    let all = counts.1.1 in
-    let is = most.2 in
-    room_within told capacity n (set.len counts.0 + 1) (omega (arith, all, is)) (h counts.0 (λ q m. (counts.1.0 q).0 m))
-room_exact told capacity s (Erase target) n most h = subst (HasRoom told capacity) (sym most) h
-
 module _ (told : Option (List Change)) (capacity : ℕ) (t : OperationSet) (w : Waiting) (d : IsSettled t w) where
   held_in : (q : Identifier) (n : Node) → map.get w.held.ins q ≡ Some n → map.get (whole t w).ins q ≡ Some n
   held_in q n e = late_kept t w d (Insert q n.parent n.ch) e

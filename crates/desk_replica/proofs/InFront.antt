@@ -239,33 +239,6 @@ taken_behind old now new ops a b before more = record {
   none = λ nothing. more.none (omega (arith, nothing)) ∙ before.none (omega (arith, nothing));
 }
 
-pub taken_nothing : (desk : Desk) (ops : List OpView) → AreTaken desk ops 0 desk
-taken_nothing desk ops = record {
-  within = omega arith;
-  set = refl;
-  accepted = λ k op fault less at. absurd (omega (arith, less));
-  site = refl;
-  spare = omega arith;
-  none = λ _. refl;
-}
-
--- one operation is taken
-pub taken_one : (old new : Desk) (ops : List OpView) (op : OpView) → 0 < length ops → op ≡ get_or ops 0 op → ((fault : TakeFault) → ¬ (IsRefusal old.set op fault)) → new.set ≡ with_operation old.set op
-    → new.site ≡ old.site → size old.set + old.spare ≤ size new.set + new.spare → AreTaken old ops 1 new
-taken_one old new [] op some at accepted set_is site spare = absurd (omega (arith, some))
-taken_one old new (x ∷ ops) op some at accepted set_is site spare = record {
-  within = omega arith;
-  set = set_is ∙ ap (with_operation old.set) at;
-  accepted = λ k q fault less there. first_accepted k q fault less there;
-  site = site;
-  spare = spare;
-  none = λ wrong. absurd (omega (arith, wrong));
-}
-  where
-    first_accepted : (k : ℕ) (q : OpView) (fault : TakeFault) → k < 1 → slice_get (x ∷ ops) k ≡ Some q → ¬ (IsRefusal (with_operations old.set (take k (x ∷ ops))) q fault)
-    first_accepted zero q fault less there refused = let same : x ≡ q = cc in accepted fault (subst (λ (o : OpView). IsRefusal old.set o fault) (sym same ∙ sym at) refused)
-    first_accepted (suc k) q fault less there refused = absurd (omega (arith, less))
-
 -- one is refused behind those that are taken
 pub refused_behind : (desk : Desk) (ops : List OpView) (a : ℕ) (fault : TakeFault) → IsRefusedNext desk (drop a ops) 0 fault → IsRefusedNext desk ops a fault
 refused_behind desk ops a fault stop = record {

@@ -139,14 +139,8 @@ module _ (t : OperationSet) (w : Waiting) (id : Identifier) (node : Node) (u : O
   pub del_tree : (q : Identifier) → set.contains u.del q ≡ ((same_id q id && set.contains w.held.del id) || set.contains t.del q)
   del_tree q = ap (λ (x : OperationSet). set.contains x.del q) p.tree ∙ del_of (set.contains w.held.del id) q
 
-  pub held_now : v.held ≡ p.rest.held
-  held_now = p.releases.held
-
   pub ins_held : v.held.ins ≡ w.held.ins
   ins_held = ap (λ (x : OperationSet). x.ins) (p.releases.held ∙ p.held)
 
   pub del_held : (q : Identifier) → set.contains v.held.del q ≡ (not (same_id q id) && set.contains w.held.del q)
   del_held q = ap (λ (x : OperationSet). set.contains x.del q) (p.releases.held ∙ p.held) ∙ set.contains-remove id_cmp-total w.held.del id q
-
-  pub ready_then : (q : Identifier) → is_ready v q ≡ (is_ready p.rest q || follows p.rest.held id q)
-  ready_then q = p.releases.ready q

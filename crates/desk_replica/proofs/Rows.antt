@@ -27,9 +27,6 @@ deletions-append xs ys = ap (each Erase) (hidden-append xs ys) ∙ map-append Er
 pub hidden_one : (e : Element) → e.hidden ≡ true → hidden_ids (e ∷ []) ≡ e.id ∷ []
 hidden_one e is = ap (λ b. each (λ (x : Element). x.id) (cond b (e ∷ []) [])) is
 
-pub hidden_none : (e : Element) → e.hidden ≡ false → hidden_ids (e ∷ []) ≡ []
-hidden_none e is = ap (λ b. each (λ (x : Element). x.id) (cond b (e ∷ []) [])) is
-
 -- hidden element k of a row that is parted in three
 pub hidden_middle : (all front row rest : List Element) (k left : ℕ) (x : Identifier) → all ≡ front ++ row ++ rest → k ≡ length (hidden_ids front) + left → slice_get (hidden_ids row) left ≡ Some x → slice_get (hidden_ids all) k ≡ Some x
 hidden_middle all front row rest k left x parted at is =

@@ -84,11 +84,5 @@ len_map-map m n sub = fewer of_map of_map (map.len m) m n refl sub
 pub len_set-map : {Y : Type 0} (s : set.FinSet id_cmp) (n : map.FinMap id_cmp Y) → ((q : Identifier) → set.contains s q ≡ true → map.contains_key n q ≡ true) → set.len s ≤ map.len n
 len_set-map s n sub = fewer of_set of_map (set.len s) s n refl sub
 
-pub len_map-set : {X : Type 0} (m : map.FinMap id_cmp X) (t : set.FinSet id_cmp) → ((q : Identifier) → map.contains_key m q ≡ true → set.contains t q ≡ true) → map.len m ≤ set.len t
-len_map-set m t sub = fewer of_map of_set (map.len m) m t refl sub
-
 pub len_set-set : (s t : set.FinSet id_cmp) → ((q : Identifier) → set.contains s q ≡ true → set.contains t q ≡ true) → set.len s ≤ set.len t
 len_set-set s t sub = fewer of_set of_set (set.len s) s t refl sub
-
-pub set_has_one : (s : set.FinSet id_cmp) (x : Identifier) → set.contains s x ≡ true → 0 < set.len s
-set_has_one s x h = set_positive s (set.len s) x refl h
