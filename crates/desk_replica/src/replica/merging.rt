@@ -148,7 +148,7 @@ impl<S: Sequence> Replica<S> {
         ensures ok { OnOk result (Holds self.new.set op.now) }
     {
         let taken = self.take_to(op, listener)?;
-        Ok(was_known(&taken))
+        Ok(taken == Taken::Known)
     }
 
     /// Takes the deletions of hidden elements whose insertions are known: of those that are placed, and of those that wait.
@@ -379,11 +379,6 @@ impl<S: Sequence> Replica<S> {
         self.take_one(op, listener)?;
         Ok(())
     }
-}
-
-/// Whether an operation that was taken was known.
-fn was_known(taken: &Taken) -> bool {
-    matches!(taken, Taken::Known)
 }
 
 /// Whether an operation is a deletion.
