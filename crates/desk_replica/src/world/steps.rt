@@ -1,7 +1,7 @@
 //! The steps of a world, done one after the other.
 
 ghost use Rattle.std.specs.Prelude.{◌≡◌, ◌≢◌, ◌<◌, IfOk, OnErr};
-ghost use Rattle.desk_replica.specs.Codes.{take_code, type_code};
+ghost use Rattle.desk_replica.specs.Codes.{take_code};
 ghost use Rattle.desk_replica.specs.WorldRun.{DoStep, DoSteps, IsReplied};
 
 use super::step::{Reply, Step};
@@ -114,7 +114,7 @@ fn merge<S: Sequence>(
 }
 
 /// The reply to what a desk refused to take. Lack of memory is no reply.
-pub fn taking_refused(fault: TakeFault) -> Result<Reply, Memory>
+fn taking_refused(fault: TakeFault) -> Result<Reply, Memory>
     ensures reply { IfOk result (λ reply. (reply ≡ Reply.Refused (take_code fault)) × (fault ≢ TakeFault.Memory)) }
     ensures err { OnErr result (fault ≡ TakeFault.Memory) }
 {
@@ -124,7 +124,8 @@ pub fn taking_refused(fault: TakeFault) -> Result<Reply, Memory>
     }
 }
 
-/// The reply to what a desk made, which is added to the operations made before, or refused to make.
+/// The reply to what a desk made, which is added to the operations made before, or refused to make. Lack of memory is no
+/// reply.
 fn typing_reply(made: &mut Vec<Op>, answer: Result<Op, TypeFault>) -> Result<Reply, Memory>
     ensures { IfOk result (IsReplied answer made.old.items made.new.items) }
 {
@@ -133,17 +134,7 @@ fn typing_reply(made: &mut Vec<Op>, answer: Result<Op, TypeFault>) -> Result<Rep
             made.push(op)?;
             Ok(Reply::Done)
         }
-        Err(fault) => typing_refused(fault),
-    }
-}
-
-/// The reply to what a desk refused to make. Lack of memory is no reply.
-pub fn typing_refused(fault: TypeFault) -> Result<Reply, Memory>
-    ensures reply { IfOk result (λ reply. (reply ≡ Reply.Refused (type_code fault)) × (fault ≢ TypeFault.Memory)) }
-    ensures err { OnErr result (fault ≡ TypeFault.Memory) }
-{
-    match fault {
-        TypeFault::Memory => Err(Memory),
-        TypeFault::CounterSpent | TypeFault::Full => Ok(Reply::Refused(fault.code())),
+        Err(TypeFault::Memory) => Err(Memory),
+        Err(fault) => Ok(Reply::Refused(fault.code())),
     }
 }
