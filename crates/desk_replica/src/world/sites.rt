@@ -2,8 +2,6 @@
 
 ghost use Rattle.std.specs.Prelude.{◌≢◌, ◌↔◌, IfOk, IsTrue};
 ghost use Rattle.std.specs.List.{AllPairs};
-ghost use Rattle.std.specs.Ordering.{nat_cmp};
-ghost use Rattle.std.specs.BTreeSet.{IsFromIterResult};
 ghost use Rattle.desk_replica.specs.WorldRun.{AreSites};
 
 use bg_types::Memory;
@@ -24,13 +22,6 @@ pub fn are_sites(alloc: Global, sites: &[u16]) -> Result<bool, Memory>
 fn stand_once(alloc: Global, sites: &[u16]) -> Result<bool, Memory>
     ensures { IfOk result (λ once. IsTrue once ↔ AllPairs (λ a b. a ≢ b) sites.now) }
 {
-    let distinct = distinct(alloc, sites)?;
+    let distinct: BTreeSet<u16> = sites.iter().copied().collect(alloc)?;
     Ok(distinct.len() == sites.len())
-}
-
-/// The sites, each once.
-fn distinct(alloc: Global, sites: &[u16]) -> Result<BTreeSet<u16>, Memory>
-    ensures { IfOk result (IsFromIterResult nat_cmp sites.now) }
-{
-    Ok(sites.iter().copied().collect(alloc)?)
 }
