@@ -94,11 +94,16 @@ impl Cursor {
         if self.find_near(seq, id) {
             return;
         }
-        if seq.has(id) {
-            self.find_further(seq, id);
-        } else {
-            self.go_back(stood);
+        if !seq.has(id) {
+            // What was read stays counted.
+            self.part = stood.part;
+            self.at = stood.at;
+            return;
         }
+        let allowed = self.allowed;
+        self.find(seq, id);
+        let read = allowed.saturating_sub(self.allowed);
+        self.near = self.near.saturating_add(read).saturating_add(FURTHER);
     }
 
     /// Moves to the element with this identifier, if that is near. Else it moves on over what is.
@@ -112,20 +117,6 @@ impl Cursor {
         }
         self.allowed = self.allowed.saturating_add(rest);
         found
-    }
-
-    /// Moves on to an element that is there and was not near.
-    fn find_further<S: Sequence>(&mut self, seq: &S, id: Id) {
-        let allowed = self.allowed;
-        self.find(seq, id);
-        let read = allowed.saturating_sub(self.allowed);
-        self.near = self.near.saturating_add(read).saturating_add(FURTHER);
-    }
-
-    /// Moves back to where it was. What was read stays counted.
-    fn go_back(&mut self, stood: Cursor) {
-        self.part = stood.part;
-        self.at = stood.at;
     }
 
     /// Moves to the element with this identifier among those that are left of a part, or as far as it may read.
