@@ -80,18 +80,12 @@ impl<S: Sequence> Replica<S> {
         ensures within { result ≤ length row.now }
         ensures known { All (Holds self.now.set) (insertions_in (take result row.now)) }
     {
-        if !self.is_placed(id) {
-            return 0;
-        }
-        if !cursor.pass(&self.seq, id) {
+        // Where none waits, what is known is placed.
+        let placed = self.held.insertion_count() == 0 || self.seq.has(id);
+        if !placed || !cursor.pass(&self.seq, id) {
             return 0;
         }
         self.known_in_front(row, cursor)
-    }
-
-    /// Whether an insertion that is known is placed: it is, where none waits.
-    fn is_placed(&self, id: Id) -> bool {
-        self.held.insertion_count() == 0 || self.seq.has(id)
     }
 
     /// How many elements in front of a list are at the cursor, one behind the other: what made them is known without a
