@@ -179,18 +179,9 @@ impl<S: Sequence> Replica<S> {
         ensures well_formed { IsWellFormed result }
         ensures unchanged { self.new ≡ self.old }
     {
-        let counter = self.next_counter();
+        let id = Id::new(self.greatest + 1, self.site).unwrap();
         let parent = self.parent_for(place);
-        let id = Id::new(counter, self.site).unwrap();
         Op::insert(id, parent, ch).unwrap()
-    }
-
-    /// The counter of the next insertion.
-    fn next_counter(&self) -> u32
-        requires { next self.now.set < 2 ^ 32 }
-        ensures { result ≡ next self.now.set }
-    {
-        self.greatest + 1
     }
 
     /// What a character typed at a place follows.
