@@ -243,7 +243,7 @@ impl<S: Sequence> Replica<S> {
     {
         let mut unpacked = Unpacked::new();
         match cursor.ahead(&self.seq, &mut unpacked).first() {
-            Some(own) => is_hidden(own, id),
+            Some(own) => own.id == id && own.hidden,
             None => false,
         }
     }
@@ -386,15 +386,4 @@ fn deletes(op: &Op) -> bool
     ensures { result ≡ is_deletion op.now }
 {
     matches!(op.view(), OpView::Erase { .. })
-}
-
-/// Whether an element has this identifier and is hidden.
-fn is_hidden(own: &Element, id: Id) -> bool
-    ensures id { OnTrue result (own.now.id ≡ id) }
-    ensures hidden { OnTrue result (own.now.hidden ≡ true) }
-{
-    if own.id != id {
-        return false;
-    }
-    own.hidden
 }
