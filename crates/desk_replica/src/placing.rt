@@ -11,7 +11,7 @@ ghost use Rattle.bg_types.specs.declared.op.OpView.TheVariants.{Insert};
 ghost use Rattle.rga_tree.specs.Tree.{stands_in};
 ghost use Rattle.pending_ops.specs.Releasing.{subject};
 ghost use Rattle.pending_ops.specs.Waiting.{IsNew, ListsOnce, is_ready};
-ghost use Rattle.rga_tree.specs.TextOf.{visible_before, is_erased};
+ghost use Rattle.rga_tree.specs.TextOf.{visible_before};
 ghost use Rattle.desk_replica.specs.Listening.{HasRoom, HasRoomBelow, HasRoomFor, Tells, extended, told_count};
 ghost use Rattle.desk_replica.specs.Telling.{ShowsAll, most_told};
 ghost use Rattle.desk_replica.specs.Placement.{IsParted, IsSettled, IsPaid, MayPlace, Places, reaches_in, waiting_in, whole};
@@ -182,25 +182,11 @@ pub fn admit<S: Sequence, L: Listener>(
         }
         OpView::Erase { target } => {
             listener.make_room(held, op)?;
-            hide(seq, target, listener);
+            listener.hear_cut(seq, target);
+            seq.hide(target);
             Ok(Taken::Hidden)
         }
     }
-}
-
-/// Hides a visible element, and tells that before.
-#[inline(always)]
-fn hide<S: Sequence, L: Listener>(seq: &mut S, target: Id, listener: &mut L)
-    requires placed { map.contains_key (S.content seq.old).ins target ≡ true }
-    requires visible { is_erased (S.content seq.old) target ≡ false }
-    requires room { HasRoom (L.told listener.old) (L.capacity listener.old) 1 }
-    ensures content { S.content seq.new ≡ with_operation (S.content seq.old) (OpView.Erase target) }
-    ensures room { S.free seq.new ≡ S.free seq.old }
-    ensures told { L.told listener.new ≡ extended (L.told listener.old) (Change.Cut (visible_before (S.content seq.old) target) ∷ []) }
-    ensures capacity { L.capacity listener.old ≤ L.capacity listener.new }
-{
-    listener.hear_cut(seq, target);
-    seq.hide(target);
 }
 
 /// Holds a new operation, which is paid for.

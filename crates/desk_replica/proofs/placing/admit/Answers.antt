@@ -82,13 +82,13 @@ returns-in_ok-pay-in-Insert-clause-paid g c = c.place_new.ensures.paid c.pay-in-
 
 pub returns-in_ok-make_room-in-Erase-clause-settled : goal.returns-in_ok-make_room-in-Erase-clause-settled
 returns-in_ok-make_room-in-Erase-clause-settled g c =
-    let u = g.S.Sequence.content c.hide.new.seq in
+    let u = g.S.Sequence.content c.hide.new.self in
     subst (IsSettled u) (sym c.make_room.ensures.held) (hidden_settled (g.S.Sequence.content c.args.seq.now) u c.args.held.now c.in-Erase.target c.hide.ensures.content c.requires.settled)
 
 pub returns-in_ok-make_room-in-Erase-clause-ok : goal.returns-in_ok-make_room-in-Erase-clause-ok
 returns-in_ok-make_room-in-Erase-clause-ok g c =
     let t = g.S.Sequence.content c.args.seq.now in
-    let u = g.S.Sequence.content c.hide.new.seq in
+    let u = g.S.Sequence.content c.hide.new.self in
     ap (whole u) c.make_room.ensures.held ∙ hidden_whole t u c.args.held.now c.in-Erase.target c.hide.ensures.content ∙ ap (with_operation (whole t c.args.held.now)) c.in-Erase.ensures.value
 
 pub returns-in_ok-make_room-in-Erase-clause-answer : goal.returns-in_ok-make_room-in-Erase-clause-answer
@@ -113,8 +113,13 @@ place_new-requires-clause-admitted g c =
 pub place_new-requires-clause-room : goal.place_new-requires-clause-room
 place_new-requires-clause-room g c = omega (arith, c.in_ok-pay-in-Insert.ensures.paid.placed)
 
-pub hide-requires-clause-placed : goal.hide-requires-clause-placed
-hide-requires-clause-placed g c =
+pub hear_cut-requires-clause-placed : goal.hear_cut-requires-clause-placed
+hear_cut-requires-clause-placed g c =
+    let yes : c.reaches.result ≡ true = search rules in
+    target_there (g.S.Sequence.content c.args.seq.now) c.in-Erase.target c.args.op.now c.in-Erase.ensures.value (sym c.reaches.ensures.value ∙ yes)
+
+pub hide-requires : goal.hide-requires
+hide-requires g c =
     let yes : c.reaches.result ≡ true = search rules in
     target_there (g.S.Sequence.content c.args.seq.now) c.in-Erase.target c.args.op.now c.in-Erase.ensures.value (sym c.reaches.ensures.value ∙ yes)
 
@@ -145,9 +150,6 @@ pub returns-in_err-pay-in-Insert-clause-paid : goal.returns-in_err-pay-in-Insert
 returns-in_err-pay-in-Insert-clause-paid g c =
     still_paid (g.S.Sequence.free c.args.seq.now) (g.S.Sequence.free c.pay-in-Insert.new.seq) c.args.held.now c.pay-in-Insert.new.held c.args.spare.now c.pay-in-Insert.new.spare
     c.pay-in-Insert.ensures.kept c.in_err-pay-in-Insert.ensures.err c.in_err-pay-in-Insert.ensures.same c.requires.paid
-
-pub hide-requires-clause-visible : goal.hide-requires-clause-visible
-hide-requires-clause-visible g c = still_visible (g.S.Sequence.content c.args.seq.now) c.args.held.now c.in-Erase.target c.args.op.now c.in-Erase.ensures.value c.requires.admitted
 
 -- ---- what is told
 
@@ -201,27 +203,27 @@ returns-in_err-make_room-in-Erase-clause-told g c =
 pub returns-in_ok-make_room-in-Erase-clause-told : goal.returns-in_ok-make_room-in-Erase-clause-told
 returns-in_ok-make_room-in-Erase-clause-told g c =
     let t = g.S.Sequence.content c.args.seq.now in
-    let u = g.S.Sequence.content c.hide.new.seq in
+    let u = g.S.Sequence.content c.hide.new.self in
     let w = c.args.held.now in
     let a = g.L.Listener.told c.args.listener.now in
     let b = g.L.Listener.told c.make_room.new.self in
-    let told = g.L.Listener.told c.hide.new.listener in
+    let told = g.L.Listener.told c.hear_cut.new.self in
     let yes : c.reaches.result ≡ true = search rules in
     tells_whole t u w c.make_room.new.held a told (record { well = g.met.S.Sequence.well_formed c.args.seq.now; tree = g.met.S.Sequence.is_tree c.args.seq.now; only = g.met.S.Sequence.only_placed c.args.seq.now }) c.requires.settled
-    (record { well = g.met.S.Sequence.well_formed c.hide.new.seq; tree = g.met.S.Sequence.is_tree c.hide.new.seq; only = g.met.S.Sequence.only_placed c.hide.new.seq }) (returns-in_ok-make_room-in-Erase-clause-settled g c)
+    (record { well = g.met.S.Sequence.well_formed c.hide.new.self; tree = g.met.S.Sequence.is_tree c.hide.new.self; only = g.met.S.Sequence.only_placed c.hide.new.self }) (returns-in_ok-make_room-in-Erase-clause-settled g c)
     (part_with (whole t w) (whole u c.make_room.new.held) c.args.op.now c.requires.admitted.joins (returns-in_ok-make_room-in-Erase-clause-ok g c))
     (tells_more t t u a b told (tells_nothing t t a b (g.met.S.Sequence.well_formed c.args.seq.now) refl c.make_room.ensures.told)
     (tells_hidden t c.in-Erase.target (record { well = g.met.S.Sequence.well_formed c.args.seq.now; tree = g.met.S.Sequence.is_tree c.args.seq.now; only = g.met.S.Sequence.only_placed c.args.seq.now }) (target_there t c.in-Erase.target c.args.op.now c.in-Erase.ensures.value (sym c.reaches.ensures.value ∙ yes))
-    (still_visible t w c.in-Erase.target c.args.op.now c.in-Erase.ensures.value c.requires.admitted) u b told (g.met.S.Sequence.well_formed c.hide.new.seq) c.hide.ensures.content c.hide.ensures.told)
+    (still_visible t w c.in-Erase.target c.args.op.now c.in-Erase.ensures.value c.requires.admitted) u b told (g.met.S.Sequence.well_formed c.hide.new.self) c.hide.ensures.content c.hear_cut.ensures.told)
     (stays_old t t u (λ id h. h)))
 
 pub returns-in_ok-make_room-in-Erase-clause-few : goal.returns-in_ok-make_room-in-Erase-clause-few
 returns-in_ok-make_room-in-Erase-clause-few g c =
-    let n = one_told false (Cut (visible_before (g.S.Sequence.content c.args.seq.now) c.in-Erase.target)) (g.L.Listener.told c.make_room.new.self) (g.L.Listener.told c.hide.new.listener) c.hide.ensures.told in
+    let n = one_told false (Cut (visible_before (g.S.Sequence.content c.args.seq.now) c.in-Erase.target)) (g.L.Listener.told c.make_room.new.self) (g.L.Listener.told c.hear_cut.new.self) c.hear_cut.ensures.told in
     omega (arith, n, ap told_count c.make_room.ensures.told)
 
 pub make_room-requires : goal.make_room-requires
 make_room-requires g c = omega (arith, held_within (g.S.Sequence.content c.args.seq.now) c.args.held.now.held, c.requires.admitted.room)
 
-pub hide-requires-clause-room : goal.hide-requires-clause-room
-hide-requires-clause-room g c = room_one (g.L.Listener.told c.make_room.new.self) (g.L.Listener.capacity c.make_room.new.self) c.args.held.now.held c.args.op.now c.in_ok-make_room-in-Erase.ensures.ok
+pub hear_cut-requires-clause-room : goal.hear_cut-requires-clause-room
+hear_cut-requires-clause-room g c = room_one (g.L.Listener.told c.make_room.new.self) (g.L.Listener.capacity c.make_room.new.self) c.args.held.now.held c.args.op.now c.in_ok-make_room-in-Erase.ensures.ok
