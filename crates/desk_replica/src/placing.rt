@@ -10,7 +10,7 @@ ghost use Rattle.bg_types.specs.WellFormed.{IsWellFormed};
 ghost use Rattle.bg_types.specs.declared.op.OpView.TheVariants.{Insert};
 ghost use Rattle.rga_tree.specs.Tree.{stands_in};
 ghost use Rattle.pending_ops.specs.Releasing.{subject};
-ghost use Rattle.pending_ops.specs.Waiting.{IsNew, ListsOnce, is_ready};
+ghost use Rattle.pending_ops.specs.Waiting.{ListsOnce, is_ready};
 ghost use Rattle.rga_tree.specs.TextOf.{visible_before};
 ghost use Rattle.desk_replica.specs.Listening.{HasRoom, HasRoomBelow, HasRoomFor, Tells, extended, told_count};
 ghost use Rattle.desk_replica.specs.Telling.{ShowsAll, most_told};
@@ -172,7 +172,7 @@ pub fn admit<S: Sequence, L: Listener>(
 {
     if !reaches(seq, op) {
         pay(seq, held, spare, op, &mut Nobody)?;
-        keep_waiting(held, op);
+        held.hold(*op).unwrap();
         return Ok(Taken::Held);
     }
     match op.view() {
@@ -187,17 +187,6 @@ pub fn admit<S: Sequence, L: Listener>(
             Ok(Taken::Hidden)
         }
     }
-}
-
-/// Holds a new operation, which is paid for.
-fn keep_waiting(held: &mut Held, op: &Op)
-    requires new { IsNew held.old.held op.now }
-    requires room { 0 < held.old.room }
-    ensures kept { held.new.held ≡ with_operation held.old.held op.now }
-    ensures released { held.new.released ≡ held.old.released }
-    ensures room { held.new.room ≡ held.old.room - 1 }
-{
-    held.hold(*op).unwrap();
 }
 
 /// Whether an operation need not wait: its parent or its target is placed.

@@ -1,5 +1,7 @@
 -- The goals of `admit` that are answered by hand.
-use Rattle.std.proofs.Common.{◌≡◌, refl, false, true, sym, ap, subst, ◌∙◌, arith, rules}
+use Rattle.std.proofs.Common.{◌≡◌, Ok, refl, false, true, sym, ap, subst, ◌∙◌, arith, rules}
+use Rattle.std.specs.Prelude.{Result, OnOk}
+use Rattle.std.proofs.lemmas.Result.{IfOk-at_ok}
 use Rattle.bg_types.specs.OperationSet.{with_operation}
 use Rattle.desk_replica.specs.Placement.{IsSettled, MayPlace, reaches_in, whole}
 use Rattle.desk_replica.specs.Reply.{IsAdmitted, IsTaken}
@@ -11,6 +13,10 @@ use Rattle.desk_replica.specs.Listening.{HasRoomFor, told_count}
 use Rattle.desk_replica.proofs.Tellings.{tells_nothing, tells_more, tells_whole, tells_hidden, one_told, formed_whole, part_with, shows_same, stays_old}
 use Rattle.desk_replica.proofs.Hearing.{room_one, room_untold, still_visible, no_hiding}
 use Rattle.desk_replica.proofs.placing.admit.Goals as goal
+
+-- what holds after a call that was not refused
+of_ok : {A E : Type 0} {r : Result A E} {x : A} (P : Type 0) → r ≡ Ok x → OnOk r P → P
+of_ok P is ok = IfOk-at_ok (λ _. P) is ok
 
 pub pay-requires-clause-few : goal.pay-requires-clause-few
 pay-requires-clause-few g c = omega (arith, held_within (g.S.Sequence.content c.args.seq.now) c.args.held.now.held, c.requires.admitted.room)
@@ -28,11 +34,11 @@ returns-in_err-pay-clause-unpaid g c = λ room.
           c.requires.settled c.requires.admitted c.reaches.ensures.well_formed (sym c.reaches.ensures.value ∙ no)).1,
     )
 
-pub keep_waiting-requires-clause-room : goal.keep_waiting-requires-clause-room
-keep_waiting-requires-clause-room g c = omega (arith, c.in_ok-pay.ensures.paid.held)
+pub unwrap-requires : goal.unwrap-requires
+unwrap-requires g c = c.hold.ensures.paid (omega (arith, c.in_ok-pay.ensures.paid.held))
 
-pub keep_waiting-requires-clause-new : goal.keep_waiting-requires-clause-new
-keep_waiting-requires-clause-new g c =
+pub hold-requires : goal.hold-requires
+hold-requires g c =
     let t = g.S.Sequence.content c.args.seq.now in
     let u = g.S.Sequence.content c.pay.new.seq in
     let same = whole_as t u c.args.held.now c.pay.new.held c.pay.ensures.content c.pay.ensures.held in
@@ -46,22 +52,22 @@ returns-then-not-reaches-clause-settled g c =
     let v = c.pay.new.held in
     let no : c.reaches.result ≡ false = search rules in
     let same = whole_as t u w v c.pay.ensures.content c.pay.ensures.held in
-    held_settled u v c.keep_waiting.new.held c.args.op.now (settled_as t u w v c.pay.ensures.content c.pay.ensures.held c.pay.ensures.released c.requires.settled)
+    held_settled u v c.hold.new.self c.args.op.now (settled_as t u w v c.pay.ensures.content c.pay.ensures.held c.pay.ensures.released c.requires.settled)
     (subst (λ s. IsAdmitted s c.args.op.now) (sym same) c.requires.admitted) c.reaches.ensures.well_formed
     (subst (λ x. reaches_in x c.args.op.now ≡ false) (sym c.pay.ensures.content) (sym c.reaches.ensures.value ∙ no))
-    c.keep_waiting.ensures.kept c.keep_waiting.ensures.released
+    (of_ok _ c.unwrap.ensures c.hold.ensures.ok) c.hold.ensures.released
 
 pub returns-then-not-reaches-clause-ok : goal.returns-then-not-reaches-clause-ok
 returns-then-not-reaches-clause-ok g c =
     let t = g.S.Sequence.content c.args.seq.now in
     let u = g.S.Sequence.content c.pay.new.seq in
     let same = whole_as t u c.args.held.now c.pay.new.held c.pay.ensures.content c.pay.ensures.held in
-    held_whole u c.pay.new.held c.keep_waiting.new.held c.args.op.now (subst (λ s. IsAdmitted s c.args.op.now) (sym same) c.requires.admitted) c.keep_waiting.ensures.kept
+    held_whole u c.pay.new.held c.hold.new.self c.args.op.now (subst (λ s. IsAdmitted s c.args.op.now) (sym same) c.requires.admitted) (of_ok _ c.unwrap.ensures c.hold.ensures.ok)
     ∙ ap (λ s. with_operation s c.args.op.now) same
 
 pub returns-then-not-reaches-clause-paid : goal.returns-then-not-reaches-clause-paid
 returns-then-not-reaches-clause-paid g c =
-    held_paid (g.S.Sequence.free c.pay.new.seq) c.pay.new.held c.keep_waiting.new.held c.args.op.now c.pay.new.spare c.keep_waiting.ensures.kept c.keep_waiting.ensures.room c.in_ok-pay.ensures.paid
+    held_paid (g.S.Sequence.free c.pay.new.seq) c.pay.new.held c.hold.new.self c.args.op.now c.pay.new.spare (of_ok _ c.unwrap.ensures c.hold.ensures.ok) (of_ok _ c.unwrap.ensures c.hold.ensures.room) c.in_ok-pay.ensures.paid
 
 pub returns-then-not-reaches-clause-answer : goal.returns-then-not-reaches-clause-answer
 returns-then-not-reaches-clause-answer g c =
@@ -164,9 +170,9 @@ returns-then-not-reaches-clause-told g c =
     let t = g.S.Sequence.content c.args.seq.now in
     let u = g.S.Sequence.content c.pay.new.seq in
     let told = g.L.Listener.told c.args.listener.now in
-    tells_whole t u c.args.held.now c.keep_waiting.new.held told told (record { well = g.met.S.Sequence.well_formed c.args.seq.now; tree = g.met.S.Sequence.is_tree c.args.seq.now; only = g.met.S.Sequence.only_placed c.args.seq.now }) c.requires.settled
+    tells_whole t u c.args.held.now c.hold.new.self told told (record { well = g.met.S.Sequence.well_formed c.args.seq.now; tree = g.met.S.Sequence.is_tree c.args.seq.now; only = g.met.S.Sequence.only_placed c.args.seq.now }) c.requires.settled
     (record { well = g.met.S.Sequence.well_formed c.pay.new.seq; tree = g.met.S.Sequence.is_tree c.pay.new.seq; only = g.met.S.Sequence.only_placed c.pay.new.seq }) (returns-then-not-reaches-clause-settled g c)
-    (part_with (whole t c.args.held.now) (whole u c.keep_waiting.new.held) c.args.op.now c.requires.admitted.joins (returns-then-not-reaches-clause-ok g c))
+    (part_with (whole t c.args.held.now) (whole u c.hold.new.self) c.args.op.now c.requires.admitted.joins (returns-then-not-reaches-clause-ok g c))
     (tells_nothing t u told told (g.met.S.Sequence.well_formed c.args.seq.now) c.pay.ensures.content refl)
 
 pub returns-in_err-pay-in-Insert-clause-told : goal.returns-in_err-pay-in-Insert-clause-told
