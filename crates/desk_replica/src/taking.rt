@@ -52,19 +52,11 @@ pub fn merge_at<S: Sequence>(
     ensures met { IsMergeAt desks.old desks.new desk from result }
 {
     if desk == from {
-        return Ok(meet_itself(&desks[desk]));
+        // Reading the count shows the proof that the desk is within its limit.
+        let _kept = desks[desk].op_count();
+        return Ok(0);
     }
     meet_another(desks, desk, from)
-}
-
-/// A desk that meets itself takes nothing new.
-fn meet_itself<S: Sequence>(desk: &Replica<S>) -> u32
-    ensures none { result ≡ 0 }
-    ensures meets { IsMerge desk.now desk.now desk.now (Ok result) }
-{
-    // Reading the count shows the proof that the desk is within its limit.
-    let _kept = desk.op_count();
-    0
 }
 
 /// A desk meets another one of the list.

@@ -1,7 +1,7 @@
 -- The goals of `merge_at` that are answered by hand.
 use Rattle.std.proofs.Common.{Ok}
 use Rattle.desk_replica.specs.DeskSets.{sets_of}
-use Rattle.desk_replica.proofs.DeskLists.{met_itself, merged_sets, merged_count, merged_accepted, merged_left, merged_sites, left_refused}
+use Rattle.desk_replica.proofs.DeskLists.{met_self, met_itself, merged_sets, merged_count, merged_accepted, merged_left, merged_sites, left_refused}
 use Rattle.desk_replica.proofs.taking.merge_at.Goals as goal
 
 pub returns-clause-ok : goal.returns-clause-ok
@@ -30,24 +30,24 @@ returns-clause-met g c = c.meet_another.ensures
 pub returns-then-desk-from-clause-ok : goal.returns-then-desk-from-clause-ok
 returns-then-desk-from-clause-ok g c =
     let desks = c.args.desks.now in
-    merged_sets desks desks c.args.desk c.args.from c.requires.desk c.requires.from (Ok c.meet_itself.result)
-    (met_itself desks c.args.desk c.args.from c.index-desks-desk.result (Ok c.meet_itself.result) c.requires.desk c.if-desk-from.true c.meet_itself.ensures.meets)
+    merged_sets desks desks c.args.desk c.args.from c.requires.desk c.requires.from (Ok 0)
+    (met_itself desks c.args.desk c.args.from c.index-desks-desk.result (Ok 0) c.requires.desk c.if-desk-from.true (met_self _ c.op_count-kept.ensures.limited))
 
 pub returns-then-desk-from-clause-count : goal.returns-then-desk-from-clause-count
 returns-then-desk-from-clause-count g c =
     let desks = c.args.desks.now in
-    merged_count desks desks c.args.desk c.args.from c.requires.desk c.requires.from (Ok c.meet_itself.result)
-    (met_itself desks c.args.desk c.args.from c.index-desks-desk.result (Ok c.meet_itself.result) c.requires.desk c.if-desk-from.true c.meet_itself.ensures.meets)
+    merged_count desks desks c.args.desk c.args.from c.requires.desk c.requires.from (Ok 0)
+    (met_itself desks c.args.desk c.args.from c.index-desks-desk.result (Ok 0) c.requires.desk c.if-desk-from.true (met_self _ c.op_count-kept.ensures.limited))
 
 pub returns-then-desk-from-clause-accepted : goal.returns-then-desk-from-clause-accepted
 returns-then-desk-from-clause-accepted g c =
     let desks = c.args.desks.now in
-    merged_accepted desks desks c.args.desk c.args.from c.requires.desk c.requires.from (Ok c.meet_itself.result)
-    (met_itself desks c.args.desk c.args.from c.index-desks-desk.result (Ok c.meet_itself.result) c.requires.desk c.if-desk-from.true c.meet_itself.ensures.meets)
+    merged_accepted desks desks c.args.desk c.args.from c.requires.desk c.requires.from (Ok 0)
+    (met_itself desks c.args.desk c.args.from c.index-desks-desk.result (Ok 0) c.requires.desk c.if-desk-from.true (met_self _ c.op_count-kept.ensures.limited))
 
 pub returns-then-desk-from-clause-met : goal.returns-then-desk-from-clause-met
 returns-then-desk-from-clause-met g c =
-    met_itself c.args.desks.now c.args.desk c.args.from c.index-desks-desk.result (Ok c.meet_itself.result) c.requires.desk c.if-desk-from.true c.meet_itself.ensures.meets
+    met_itself c.args.desks.now c.args.desk c.args.from c.index-desks-desk.result (Ok 0) c.requires.desk c.if-desk-from.true (met_self _ c.op_count-kept.ensures.limited)
 
 pub returns-clause-itself : goal.returns-clause-itself
 returns-clause-itself g c = λ same. absurd (c.if-desk-from.false same)
