@@ -35,6 +35,7 @@ use Rattle.desk_replica.proofs.Bounds.{walked_inserted}
 use Rattle.desk_replica.proofs.ElementPlaces.{element_at}
 use Rattle.desk_replica.proofs.Hearing.{room_left, room_within, told_grows}
 use Rattle.desk_replica.proofs.InTurn.{joined, joined_split, rest_from, split_at, take_behind, take_push}
+use Rattle.desk_replica.proofs.Tellings.{Stays, stays_old, stays_shown}
 use Rattle.desk_replica.proofs.Rows.{deletions-append, hidden_one, insertions-append}
 
 -- what one list has another one has too
@@ -136,6 +137,11 @@ shows_erased s u same part id h =
     unmarked : (k : Bool) → is_erased s id ≡ k → not (is_erased u id) ≡ true → is_erased s id ≡ false
     unmarked true e free = absurd (true≢false (sym free ∙ ap not (part (Erase id) e)))
     unmarked false e free = e
+
+-- where deletions alone were taken, or insertions alone are, what is gone stays so
+pub stays_of_kind : (s t u : OperationSet) (deletions : Bool) → IsPartOf s t → (deletions ≡ true → t.ins ≡ s.ins) → (deletions ≡ false → ShowsAll t u) → Stays s t u
+stays_of_kind s t u true part insertions shows = stays_old s t u (shows_erased s t (insertions refl) part)
+stays_of_kind s t u false part insertions shows = stays_shown s t u (shows refl)
 
 -- ---- lists
 

@@ -95,43 +95,51 @@ impl<S: Sequence> Replica<S> {
         ensures all { ListsOnce other.now.set (listed other.now) }
     {
         let waiting = count_waiting(&other.held);
-        self.erase_waiting(&other.held, waiting, listener)?;
+        self.take_waiting(&other.held, waiting, true, listener)?;
         self.erase_elements(&other.seq, listener)?;
         self.take_elements(&other.seq, listener)?;
-        self.insert_waiting(&other.held, waiting, listener)
+        self.take_waiting(&other.held, waiting, false, listener)
     }
 
-    /// Takes the deletions that wait in a store of this many operations.
-    fn erase_waiting<L: Listener>(
+    /// Takes the operations of one kind that wait in a store of this many: the deletions, or else the insertions.
+    fn take_waiting<L: Listener>(
         &mut self,
         held: &Held,
         count: usize,
+        deletions: bool,
         listener: &mut L,
     ) -> Result<(), TakeFault>
         requires well_formed { AllWellFormed self.old.set }
         requires count { count ≡ size held.now.held }
         ensures grown { IsGrown self.old (waiting_in held.now) self.new }
-        ensures insertions { self.new.set.ins ≡ self.old.set.ins }
+        ensures insertions { deletions ≡ true → self.new.set.ins ≡ self.old.set.ins }
+        ensures shows { deletions ≡ false → ShowsAll self.old.set self.new.set }
         ensures heard { IsHeard self.old.set self.new.set (L.told listener.old) (L.told listener.new) (L.capacity listener.old) (L.capacity listener.new) }
         ensures fault { IfErr result (IsStopped (waiting_in held.now) self.new (L.told listener.old) (L.told listener.new) (L.capacity listener.old)) }
-        ensures ok { OnOk result (All (λ op. is_deletion op ≡ true → Holds self.new.set op) (waiting_in held.now)) }
+        ensures ok { OnOk result (All (λ op. is_deletion op ≡ deletions → Holds self.new.set op) (waiting_in held.now)) }
     {
         for j in 0..count {
-            self.take_deletion(&held.nth(j), listener)?;
+            self.take_of_kind(&held.nth(j), deletions, listener)?;
         }
         Ok(())
     }
 
-    /// Takes an operation if it is a deletion.
-    fn take_deletion<L: Listener>(&mut self, op: &Op, listener: &mut L) -> Result<(), TakeFault>
+    /// Takes an operation if it is of a kind: a deletion, or else an insertion.
+    fn take_of_kind<L: Listener>(
+        &mut self,
+        op: &Op,
+        deletions: bool,
+        listener: &mut L,
+    ) -> Result<(), TakeFault>
         requires well_formed { AllWellFormed self.old.set }
         ensures grown { IsGrown self.old (op.now ∷ []) self.new }
-        ensures insertions { self.new.set.ins ≡ self.old.set.ins }
+        ensures insertions { deletions ≡ true → self.new.set.ins ≡ self.old.set.ins }
+        ensures shows { deletions ≡ false → ShowsAll self.old.set self.new.set }
         ensures heard { IsHeard self.old.set self.new.set (L.told listener.old) (L.told listener.new) (L.capacity listener.old) (L.capacity listener.new) }
         ensures fault { IfErr result (IsStopped (op.now ∷ []) self.new (L.told listener.old) (L.told listener.new) (L.capacity listener.old)) }
-        ensures ok { OnOk result (is_deletion op.now ≡ true → Holds self.new.set op.now) }
+        ensures ok { OnOk result (is_deletion op.now ≡ deletions → Holds self.new.set op.now) }
     {
-        if !deletes(op) {
+        if deletes(op) != deletions {
             return Ok(());
         }
         self.take_one(op, listener)?;
@@ -340,43 +348,6 @@ impl<S: Sequence> Replica<S> {
             return Ok(());
         }
         self.take_one(&Op::erase(e.id), listener)?;
-        Ok(())
-    }
-
-    /// Takes the insertions that wait in a store of this many operations.
-    fn insert_waiting<L: Listener>(
-        &mut self,
-        held: &Held,
-        count: usize,
-        listener: &mut L,
-    ) -> Result<(), TakeFault>
-        requires well_formed { AllWellFormed self.old.set }
-        requires count { count ≡ size held.now.held }
-        ensures grown { IsGrown self.old (waiting_in held.now) self.new }
-        ensures shows { ShowsAll self.old.set self.new.set }
-        ensures heard { IsHeard self.old.set self.new.set (L.told listener.old) (L.told listener.new) (L.capacity listener.old) (L.capacity listener.new) }
-        ensures fault { IfErr result (IsStopped (waiting_in held.now) self.new (L.told listener.old) (L.told listener.new) (L.capacity listener.old)) }
-        ensures ok { OnOk result (All (λ op. is_deletion op ≡ false → Holds self.new.set op) (waiting_in held.now)) }
-    {
-        for j in 0..count {
-            self.take_insertion(&held.nth(j), listener)?;
-        }
-        Ok(())
-    }
-
-    /// Takes an operation if it is an insertion.
-    fn take_insertion<L: Listener>(&mut self, op: &Op, listener: &mut L) -> Result<(), TakeFault>
-        requires well_formed { AllWellFormed self.old.set }
-        ensures grown { IsGrown self.old (op.now ∷ []) self.new }
-        ensures shows { ShowsAll self.old.set self.new.set }
-        ensures heard { IsHeard self.old.set self.new.set (L.told listener.old) (L.told listener.new) (L.capacity listener.old) (L.capacity listener.new) }
-        ensures fault { IfErr result (IsStopped (op.now ∷ []) self.new (L.told listener.old) (L.told listener.new) (L.capacity listener.old)) }
-        ensures ok { OnOk result (is_deletion op.now ≡ false → Holds self.new.set op.now) }
-    {
-        if deletes(op) {
-            return Ok(());
-        }
-        self.take_one(op, listener)?;
         Ok(())
     }
 }
