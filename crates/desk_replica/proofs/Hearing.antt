@@ -36,6 +36,7 @@ use Rattle.desk_replica.specs.Telling.{IsUntaken, ShowsAll, TellsAtMost, changes
 use Rattle.desk_replica.proofs.Admitting.{IsContent}
 use Rattle.desk_replica.proofs.Bounds.{walk_within, walked_inserted, set_beside}
 use Rattle.desk_replica.proofs.Loop.{none_ready}
+use Rattle.desk_replica.proofs.Merges.{size-one_more}
 use Rattle.desk_replica.proofs.Settled.{attached_placed, there, whole_formed}
 use Rattle.desk_replica.proofs.Sizes.{len_set-map, len_set-set}
 use Rattle.desk_replica.proofs.Listed.{late_kept}
@@ -229,23 +230,8 @@ seen_taken s (Erase target) (Placed n) well part h = absurd h.1
 seen_taken s (Erase target) Hidden well part h = let m = one_mark s target h.0.is_new in omega (arith, m)
 seen_taken s (Erase target) Held well part h = let m = more_marks s target in omega (arith, m)
 
--- an operation is at most one more
-one_more : (s : OperationSet) (op : OpView) → size (with_operation s op) ≤ size s + 1
-one_more s (Insert id parent ch) =
-    let n : Node = record { parent = parent; ch = ch } in
-    let l = map.len-insert id_cmp-total s.ins id n in let m = one_at_most (map.contains_key s.ins id) (map.len s.ins) in omega (arith, l, m)
-  where
-    one_at_most : (b : Bool) (n : ℕ) → cond b n (n + 1) ≤ n + 1
-    one_at_most true n = omega arith
-    one_at_most false n = omega arith
-one_more s (Erase target) = let l = set.len-insert id_cmp-total s.del target in let m = one_at_most (set.contains s.del target) (set.len s.del) in omega (arith, l, m)
-  where
-    one_at_most : (b : Bool) (n : ℕ) → cond b n (n + 1) ≤ n + 1
-    one_at_most true n = omega arith
-    one_at_most false n = omega arith
-
 pub size_taken : {A E : Type 0} (answer : Result A E) (old new : Desk) (op : OpView) → OnOk answer (new.set ≡ with_operation old.set op) → OnErr answer (new ≡ old) → size new.set ≤ size old.set + 1
-size_taken (Ok taken) old new op ok err = let one = one_more old.set op in omega (arith, one, ap size ok)
+size_taken (Ok taken) old new op ok err = let one = size-one_more old.set op in omega (arith, one, ap size ok)
 size_taken (Err fault) old new op ok err = omega (arith, ap (λ (d : Desk). size d.set) err)
 
 -- beyond one change, what one operation tells is of insertions that wait no more

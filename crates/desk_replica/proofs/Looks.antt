@@ -15,14 +15,10 @@ use Rattle.rga_tree.specs.declared.element.Element.{Element}
 use Rattle.rga_tree.specs.Tree.{OnlyErasesPlaced}
 use Rattle.rga_tree.specs.Elements.{element_of}
 use Rattle.desk_replica.specs.Placement.{IsParted}
-use Rattle.desk_replica.proofs.Whole.{contains-union}
+use Rattle.desk_replica.proofs.Whole.{contains-union, or_false}
 
 abbrev op_at : Identifier → Node → OpView
 op_at q n = Insert q n.parent n.ch
-
-or_false : (a b : Bool) → b ≡ false → (a || b) ≡ a
-or_false true b e = refl
-or_false false b e = e
 
 not_there : (s : OperationSet) (q : Identifier) → (b : Bool) → set.contains s.del q ≡ b → (b ≡ true → ⊥) → set.contains s.del q ≡ false
 not_there s q true e f = absurd (f refl)

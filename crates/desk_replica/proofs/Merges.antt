@@ -149,7 +149,7 @@ at_most : (b : Bool) (k : ℕ) → cond b k (k + 1) ≤ k + 1
 at_most true k = omega arith
 at_most false k = omega arith
 
-size-one_more : (s : OperationSet) (op : OpView) → size (with_operation s op) ≤ size s + 1
+pub size-one_more : (s : OperationSet) (op : OpView) → size (with_operation s op) ≤ size s + 1
 size-one_more s (Insert id parent ch) = omega (arith, map.len-insert id_cmp-total s.ins id (record { parent = parent; ch = ch }), at_most (map.contains_key s.ins id) (map.len s.ins))
 size-one_more s (Erase target) = omega (arith, set.len-insert id_cmp-total s.del target, at_most (set.contains s.del target) (set.len s.del))
 

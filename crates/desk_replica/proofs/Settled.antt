@@ -17,7 +17,7 @@ use Rattle.rga_tree.specs.Tree.{stands_in, IsTree, OnlyErasesPlaced}
 use Rattle.rga_tree.specs.Elements.{elements, element_of}
 use Rattle.rga_tree.proofs.Interface.{Entry, all_attached, all_weaker_by, walk-part, IsAttached-tree, IsAttached-more}
 use Rattle.desk_replica.specs.Placement.{IsParted}
-use Rattle.desk_replica.proofs.Whole.{contains-union, first_some, which}
+use Rattle.desk_replica.proofs.Whole.{contains-union, first_some, or_false, which}
 
 -- each operation that is kept is well formed
 pub AllWellFormed-union : (t h : OperationSet) → AllWellFormed t → AllWellFormed h → AllWellFormed (union t h)
@@ -37,20 +37,17 @@ module _ (t h : OperationSet) (wt : AllWellFormed t) (wh : AllWellFormed h) (tre
   standing : (q : Identifier) (n : Node) → map.get (union t h).ins q ≡ Some n → stands_in t n.parent ≡ true → map.get t.ins q ≡ Some n
   standing q n e s = which (map.get t.ins q) (map.get h.ins q) n _ (sym (get-union t h q) ∙ e) (λ k. k) (λ _ k. absurd (true≢false (sym s ∙ d.waits q n k refl)))
 
-  attached_in : (q : Identifier) → IsAttached (union t h).ins q → map.contains_key t.ins q ≡ true
-  attached_in q (below_root id ch e) = ap is_some (standing id (record { parent = Root; ch = ch }) e refl)
-  attached_in q (below id parent ch e up) = ap is_some (standing id (record { parent = After parent; ch = ch }) e (attached_in parent up))
+  pub attached_placed : (q : Identifier) → IsAttached (union t h).ins q → map.contains_key t.ins q ≡ true
+  attached_placed q (below_root id ch e) = ap is_some (standing id (record { parent = Root; ch = ch }) e refl)
+  attached_placed q (below id parent ch e up) = ap is_some (standing id (record { parent = After parent; ch = ch }) e (attached_placed parent up))
 
   pub placed_attached : (q : Identifier) → map.contains_key t.ins q ≡ true → IsAttached (union t h).ins q
   placed_attached q e = IsAttached-more t.ins (union t h).ins in_whole (IsAttached-tree t q wt tree e)
 
-  pub attached_placed : (q : Identifier) → IsAttached (union t h).ins q → map.contains_key t.ins q ≡ true
-  attached_placed = attached_in
-
   pub part : IsAttachedPart (union t h) t
   part q n = (
     (λ e. (in_whole q n e, placed_attached q (ap is_some e))),
-    (λ w. let k = there (map.get t.ins q) (attached_in q w.1) in k.1 ∙ sym (in_whole q k.0 k.1) ∙ w.0),
+    (λ w. let k = there (map.get t.ins q) (attached_placed q w.1) in k.1 ∙ sym (in_whole q k.0 k.1) ∙ w.0),
   )
 
   pub whole_formed : AllWellFormed (union t h)
@@ -58,10 +55,6 @@ module _ (t h : OperationSet) (wt : AllWellFormed t) (wh : AllWellFormed h) (tre
 
   pub walk-whole : walk (union t h) Root ≡ walk t Root
   walk-whole = sym (walk-part (union t h) t whole_formed part)
-
-  or_false : (a b : Bool) → b ≡ false → (a || b) ≡ a
-  or_false true b e = refl
-  or_false false b e = e
 
   pub mark-whole : (q : Identifier) → map.contains_key t.ins q ≡ true → is_erased (union t h) q ≡ is_erased t q
   mark-whole q e = contains-union t h q ∙ or_false (set.contains t.del q) (set.contains h.del q) (d.early q e)

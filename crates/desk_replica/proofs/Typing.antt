@@ -32,6 +32,7 @@ use Rattle.desk_replica.proofs.Whole.{contains-union, first_none, some_not}
 use Rattle.desk_replica.proofs.Lists.{all_at, slice_get-from, slice_get-to, slice_get-within}
 use Rattle.desk_replica.proofs.Settled.{walk-whole, visible-whole, text-whole, in_whole}
 use Rattle.desk_replica.proofs.Admitting.{IsContent}
+use Rattle.desk_replica.proofs.FirstTurn.{not_held}
 use Rattle.desk_replica.specs.Desk.{Desk}
 use Rattle.desk_replica.proofs.Desks.{desk_of}
 use Rattle.desk_replica.proofs.Typed.{filter-behind, filter-front, filter-without, each-insert, each-remove, prefix_row, none_greater, lower}
@@ -71,10 +72,6 @@ module _ (s : OperationSet) (id : Identifier) (is : id.counter ≡ next s) where
       by true e = absurd (let c = ap (λ (x : Identifier). x.counter) (same_id-is p id e) in let b = parent_below s q p ch h in omega arith)
       by false e = e
 
-not_held : (a b : Option Node) → unwrap_first a b ≡ None → (a ≡ None) × (b ≡ None)
-not_held None b e = (refl, e)
-not_held (Some n) b e = let f : Some n ≡ None = e in absurd cc
-
 module _ (t h : OperationSet) (wh : AllWellFormed h) (c : IsContent t) (d : IsParted t h (λ _. false)) (id : Identifier) (parent : Place) (ch : ℕ)
     (is : id.counter ≡ next (union t h)) (formed : IsWellFormed (Insert id parent ch)) (stands : stands_in t parent ≡ true) where
   abbrev s : OperationSet
@@ -90,7 +87,7 @@ module _ (t h : OperationSet) (wh : AllWellFormed h) (c : IsContent t) (d : IsPa
   e = record { id = id; parent = parent; ch = ch; hidden = false }
 
   none : (map.get t.ins id ≡ None) × (map.get h.ins id ≡ None)
-  none = not_held (map.get t.ins id) (map.get h.ins id) (sym (get-union t h id) ∙ new_ins s id is)
+  none = not_held t h id (new_ins s id is)
 
   unmarked : (set.contains t.del id ≡ false) × (set.contains h.del id ≡ false)
   unmarked = or_parts (set.contains t.del id) (set.contains h.del id) (sym (contains-union t h id) ∙ new_del s id is)

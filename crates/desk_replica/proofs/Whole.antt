@@ -1,5 +1,5 @@
 -- What a desk keeps, identifier by identifier.
-use Rattle.std.proofs.Common.{◌≡◌, Option, Some, None, refl, sym, ap, ◌∙◌}
+use Rattle.std.proofs.Common.{◌≡◌, Bool, true, false, Option, Some, None, refl, sym, ap, ◌∙◌}
 use Rattle.std.specs.Prelude.{◌||◌}
 use Rattle.std.specs.FinMap as map
 use Rattle.std.specs.FinSet as set
@@ -9,6 +9,10 @@ use Rattle.bg_types.proofs.Interface.{id_cmp-total, same_sets, get-union, unwrap
 
 pub contains-union : (t h : OperationSet) (q : Identifier) → set.contains (union t h).del q ≡ (set.contains t.del q || set.contains h.del q)
 contains-union t h q = set.contains-union id_cmp-total t.del h.del q
+
+pub or_false : (a b : Bool) → b ≡ false → (a || b) ≡ a
+or_false true b e = refl
+or_false false b e = e
 
 pub some_not : (n : Node) (A : Type 0) → None ≡ Some n → A
 some_not n A e = cc
