@@ -91,70 +91,36 @@ pub fn append_chain(slots: &Table<Slot>, firsts: &Table<Id>, parent: Id, queue: 
     }
 }
 
-/// The front of the last released parent's chain, and where that chain stands among `firsts`.
-#[derive(Clone, Copy)]
-pub struct Front {
-    pub at: usize,
-    pub parent: Id,
-    pub id: Id,
-    pub slot: Slot,
-}
-
-/// Takes the next insertion to hand out from the slots. It is still named by its chain.
-pub fn take_front(slots: &mut Table<Slot>, firsts: &Table<Id>, released: &Names) -> Option<Front>
-    requires { AreLinked slots.old.entries firsts.now.entries released.now.keys }
-    ensures none { IfNone result (released.now.keys ≡ []) }
-    ensures unchanged { IfNone result (slots.new ≡ slots.old) }
-    ensures parent { IfSome result
-        (λ f. (before : List Identifier) × (released.now.keys ≡ before ++ f.parent ∷ [])) }
-    ensures first { IfSome result (λ f. first_in firsts.now.entries f.parent ≡ Some f.id) }
-    ensures at { IfSome result (λ f. slice_get firsts.now.entries f.at ≡ Some (f.parent, f.id)) }
-    ensures slot { IfSome result (λ f. slot_in slots.old.entries f.id ≡ Some f.slot) }
-    ensures cut { IfSome result (λ f. (q : Identifier) → slot_in slots.new.entries q
-        ≡ (if same_id f.id q then None else slot_in slots.old.entries q)) }
-    ensures len { length slots.new.entries ≤ length slots.old.entries }
-    ensures spare { spare slots.old ≤ spare slots.new }
-{
-    let parent = *released.last()?;
-    let Some((at, _, first)) = firsts.get_full(&parent) else {
-        unreachable!()
-    };
-    let id = *first;
-    let Some(slot) = slots.swap_remove(&id) else {
-        unreachable!()
-    };
-    Some(Front {
-        at,
-        parent,
-        id,
-        slot,
-    })
-}
-
-/// Takes the front off a released parent's chain. The parent of an empty chain is no
-/// longer released.
-pub fn unlink(firsts: &mut Table<Id>, released: &mut Names, front: &Front)
-    requires first { IsSome (first_in firsts.old.entries front.now.parent) }
-    requires at { slice_get firsts.old.entries front.now.at ≡ Some (front.now.parent, front.now.id) }
+/// Takes the front off the chain of the parent that was released last: the next one is its first then. The parent of an
+/// empty chain is no longer released.
+pub fn unlink(
+    firsts: &mut Table<Id>,
+    released: &mut Names,
+    at: usize,
+    parent: Id,
+    next: Option<Id>,
+)
+    requires first { IsSome (first_in firsts.old.entries parent) }
+    requires at { (front : Identifier) × (slice_get firsts.old.entries at ≡ Some (parent, front)) }
     requires last { (before : List Identifier)
-        × (released.old.keys ≡ before ++ front.now.parent ∷ []) }
+        × (released.old.keys ≡ before ++ parent ∷ []) }
     ensures first { (p : Identifier) → first_in firsts.new.entries p
-        ≡ (if same_id front.now.parent p then front.now.slot.next
+        ≡ (if same_id parent p then next
         else first_in firsts.old.entries p) }
-    ensures kept { IsSome front.now.slot.next → released.new.keys ≡ released.old.keys }
-    ensures emptied { front.now.slot.next ≡ None → (p : Identifier)
+    ensures kept { IsSome next → released.new.keys ≡ released.old.keys }
+    ensures emptied { next ≡ None → (p : Identifier)
         → is_in released.new.keys p
-        ≡ (not (same_id front.now.parent p) && is_in released.old.keys p) }
+        ≡ (not (same_id parent p) && is_in released.old.keys p) }
     ensures room { (n : ℕ)
         → length firsts.old.entries + n ≤ length released.old.keys + set.spare released.old
         → length firsts.new.entries + n ≤ length released.new.keys + set.spare released.new }
     ensures spare { spare firsts.old ≤ spare firsts.new }
 {
-    match front.slot.next {
+    match next {
         // Written over the one before, so that no room is used.
-        Some(next) => *firsts.get_mut(&front.parent).unwrap() = next,
+        Some(id) => *firsts.get_mut(&parent).unwrap() = id,
         None => {
-            firsts.swap_remove_index(front.at);
+            firsts.swap_remove_index(at);
             released.pop();
         }
     }

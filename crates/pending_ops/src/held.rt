@@ -15,7 +15,7 @@ ghost use Rattle.pending_ops.specs.Chains.{HasRoom, IsChainOf, first_in, inserti
 ghost use Rattle.pending_ops.specs.declared.chains.Slot.{Slot};
 
 use crate::chains::{
-    Names, Slot, Table, append_chain, first_of, insertion_in, link, take_front, unlink,
+    Names, Slot, Table, append_chain, first_of, insertion_in, link, unlink,
 };
 use bg_types::{Id, Keyed, Memory, Op, OpView, Place};
 use indexmap::{IndexMap, IndexSet};
@@ -292,9 +292,16 @@ impl Held {
         ensures unchanged { IfNone result (self.new ≡ self.old) }
         ensures released { IfNone result (self.old.released ≡ set.empty) }
     {
-        let front = take_front(&mut self.slots, &self.firsts, &self.released)?;
-        unlink(&mut self.firsts, &mut self.released, &front);
-        Op::insert(front.id, front.slot.parent, front.slot.ch)
+        let parent = *self.released.last()?;
+        let Some((at, _, first)) = self.firsts.get_full(&parent) else {
+            unreachable!()
+        };
+        let id = *first;
+        let Some(slot) = self.slots.swap_remove(&id) else {
+            unreachable!()
+        };
+        unlink(&mut self.firsts, &mut self.released, at, parent, slot.next);
+        Op::insert(id, slot.parent, slot.ch)
     }
 
     /// Whether a deletion of this target was held. Afterwards none is.

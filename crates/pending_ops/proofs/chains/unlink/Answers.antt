@@ -13,22 +13,22 @@ some_of None h = h
 some_of (Some x) h = refl
 
 pub unwrap-requires : goal.unwrap-requires
-unwrap-requires c = some_of c.get_mut.result (ap is_some c.get_mut.ensures.value ∙ ap is_some (lookup-id_eq c.args.firsts.now.entries c.args.front.now.parent) ∙ c.requires.first)
+unwrap-requires c = some_of c.get_mut.result (ap is_some c.get_mut.ensures.value ∙ ap is_some (lookup-id_eq c.args.firsts.now.entries c.args.parent) ∙ c.requires.first)
 
 pub returns-in-Some-clause-first : goal.returns-in-Some-clause-first
 returns-in-Some-clause-first c = λ p.
-    let there = ap is_some (lookup-id_eq c.args.firsts.now.entries c.args.front.now.parent) ∙ c.requires.first in
-    lookup-updated c.args.firsts.now.entries (c.get_mut.follows.lender c.in-Some.next).entries c.args.front.now.parent (Some c.in-Some.next) ((c.get_mut.follows.holds c.in-Some.next).3 there).0 p
-    ∙ ap (λ o. cond (same_id c.args.front.now.parent p) o (first_in c.args.firsts.now.entries p)) (sym c.in-Some.is)
+    let there = ap is_some (lookup-id_eq c.args.firsts.now.entries c.args.parent) ∙ c.requires.first in
+    lookup-updated c.args.firsts.now.entries (c.get_mut.follows.lender c.in-Some.id).entries c.args.parent (Some c.in-Some.id) ((c.get_mut.follows.holds c.in-Some.id).3 there).0 p
+    ∙ ap (λ o. cond (same_id c.args.parent p) o (first_in c.args.firsts.now.entries p)) (sym c.in-Some.is)
 
 pub returns-in-Some-clause-room : goal.returns-in-Some-clause-room
-returns-in-Some-clause-room c = λ n room. let same = (c.get_mut.follows.holds c.in-Some.next).2 in omega arith
+returns-in-Some-clause-room c = λ n room. let same = (c.get_mut.follows.holds c.in-Some.id).2 in omega arith
 
 pub returns-in-None-clause-first : goal.returns-in-None-clause-first
 returns-in-None-clause-first c = λ p.
-    let updates = rw (c.swap_remove_index.ensures.entry ∙ c.requires.at) at c.swap_remove_index.ensures.updates in
-    lookup-updated c.args.firsts.now.entries c.swap_remove_index.new.self.entries c.args.front.now.parent None updates.0 p
-    ∙ ap (λ o. cond (same_id c.args.front.now.parent p) o (first_in c.args.firsts.now.entries p)) (sym c.in-None.is)
+    let updates = rw (c.swap_remove_index.ensures.entry ∙ c.requires.at.1) at c.swap_remove_index.ensures.updates in
+    lookup-updated c.args.firsts.now.entries c.swap_remove_index.new.self.entries c.args.parent None updates.0 p
+    ∙ ap (λ o. cond (same_id c.args.parent p) o (first_in c.args.firsts.now.entries p)) (sym c.in-None.is)
 
 -- what a pop from a list that ends in x says, it says of x
 popped : (old new before : List Identifier) (x : Identifier) (r : Option Identifier) (P : Identifier → Type 0) → old ≡ new ++ option_to_list r → old ≡ before ++ x ∷ []
@@ -45,7 +45,7 @@ not_empty xs before x e = let n = ap length e in omega (arith, n, length-append 
 
 pub returns-in-None-clause-emptied : goal.returns-in-None-clause-emptied
 returns-in-None-clause-emptied c = λ none p.
-    let parent = c.args.front.now.parent in
+    let parent = c.args.parent in
     let old = c.args.released.now.keys in
     let new = c.pop.new.self.keys in
     let last = c.requires.last in
@@ -55,7 +55,7 @@ returns-in-None-clause-emptied c = λ none p.
 
 pub returns-in-None-clause-room : goal.returns-in-None-clause-room
 returns-in-None-clause-room c = λ n room.
-    let removed = ap is_some (c.swap_remove_index.ensures.entry ∙ c.requires.at) in
+    let removed = ap is_some (c.swap_remove_index.ensures.entry ∙ c.requires.at.1) in
     let first = one_less (is_some c.swap_remove_index.result) (length c.swap_remove_index.new.self.entries) (length c.args.firsts.now.entries) removed c.swap_remove_index.ensures.len in
     let last = one_less_at_most (is_some c.pop.result) (length c.pop.new.self.keys) (length c.args.released.now.keys) c.pop.ensures.len in
     let spare = c.pop.ensures.room.0 in
