@@ -1,17 +1,14 @@
 //! The tables of a store: the held insertions, and for each parent the chain of those that name it.
 
 ghost use Rattle.std.specs.Prelude.{◌≡◌, ◌&&◌, not, ◌≤◌, ◌<◌, ◌+◌, ◌++◌, ◌∷◌, [], true, ℕ, List, length, slice_get, Some, None, OnOk, OnErr, IfSome, IfNone, IsSome, if◌then◌else◌, vec_len, vec_capacity};
-ghost use Rattle.std.specs.Option.{option_map};
 ghost use Rattle.indexmap.specs.IndexMap.{spare};
 ghost use Rattle.indexmap.specs.IndexSet as set;
 ghost use Rattle.bg_types.specs.Identifier.{Identifier, same_id};
-ghost use Rattle.bg_types.specs.WellFormed.{MayFollow};
-ghost use Rattle.bg_types.specs.declared.op.OpView.TheVariants.{Insert};
 ghost use Rattle.pending_ops.specs.declared.chains.Slot.{Slot};
 ghost use Rattle.pending_ops.specs.Waiting.{is_after};
 ghost use Rattle.pending_ops.specs.Chains.{AreLinked, Links, first_in, is_in, slot_in};
 
-use bg_types::{Id, Keyed, Memory, Op, Place};
+use bg_types::{Id, Keyed, Place};
 use indexmap::{IndexMap, IndexSet};
 
 /// A table by identifier. Its memory can be reserved in advance, and a removal gives none back.
@@ -26,21 +23,6 @@ pub struct Slot {
     pub parent: Place,
     pub ch: char,
     pub next: Option<Id>,
-}
-
-/// The insertion in a slot.
-pub fn insertion_in(slots: &Table<Slot>, id: Id) -> Option<Op>
-    requires { (s : Slot) → slot_in slots.now.entries id ≡ Some s → MayFollow s.parent id }
-    ensures { result ≡ option_map (λ s. Insert id s.parent s.ch) (slot_in slots.now.entries id) }
-{
-    // With an empty table nothing is hashed: mostly nothing waits.
-    if slots.is_empty() {
-        return None;
-    }
-    match slots.get(&id) {
-        Some(slot) => Op::insert(id, slot.parent, slot.ch),
-        None => None,
-    }
 }
 
 /// Puts an insertion in front of those that name its parent, and returns which was the first of

@@ -15,7 +15,7 @@ ghost use Rattle.pending_ops.specs.Chains.{HasRoom, IsChainOf, first_in, inserti
 ghost use Rattle.pending_ops.specs.declared.chains.Slot.{Slot};
 
 use crate::chains::{
-    Names, Slot, Table, append_chain, first_of, insertion_in, link, unlink,
+    Names, Slot, Table, append_chain, first_of, link, unlink,
 };
 use bg_types::{Id, Keyed, Memory, Op, OpView, Place};
 use indexmap::{IndexMap, IndexSet};
@@ -214,7 +214,14 @@ impl Held {
         ensures { result
             ≡ option_map (λ node. Insert id node.parent node.ch) (map.get self.now.held.ins id) }
     {
-        insertion_in(&self.slots, id)
+        // With an empty table nothing is hashed: mostly nothing waits.
+        if self.slots.is_empty() {
+            return None;
+        }
+        match self.slots.get(&id) {
+            Some(slot) => Op::insert(id, slot.parent, slot.ch),
+            None => None,
+        }
     }
 
     /// Whether a deletion of this target is held.
