@@ -46,49 +46,20 @@ pub fn place_in_front<S: Sequence>(
     let Some(op) = ops.first() else {
         return 0;
     };
-    match op.view() {
-        OpView::Insert { id, parent, .. } => {
-            if id.counter() - 1 != greatest || !stands(seq, &parent) {
-                return 0;
-            }
-            place_from(seq, held, spare, id, &parent, ops)
-        }
-        OpView::Erase { .. } => 0,
+    let OpView::Insert { id, parent, .. } = op.view() else {
+        return 0;
+    };
+    if id.counter() - 1 != greatest || !stands(seq, &parent) {
+        return 0;
     }
-}
-
-/// Places the run in front of a list that begins with this identifier and this parent, at most a piece of it, and returns how
-/// many operations that is: none where memory for them is refused.
-fn place_from<S: Sequence>(
-    seq: &mut S,
-    held: &Held,
-    spare: &mut usize,
-    first: Id,
-    parent: &Place,
-    ops: &[Op],
-) -> usize
-    requires few { map.len held.now.held.ins ≤ 1_000_000 }
-    requires paid { IsPaid (S.free seq.old) held.now spare.old }
-    requires next { next (S.content seq.old) ≤ first.counter }
-    requires before { MayFollow parent.now first }
-    requires stands { stands_in (S.content seq.old) parent.now ≡ true }
-    ensures within { result ≤ length ops.now }
-    ensures run { IsRunInFront (S.content seq.old) (first.counter - 1) ops.now result }
-    ensures counters { first.counter + result ≤ 2 ^ 32 }
-    ensures content { S.content seq.new ≡ with_operations (S.content seq.old) (take result ops.now) }
-    ensures paid { IsPaid (S.free seq.new) held.now spare.new }
-    ensures spare { spare.new ≡ spare.old - result }
-{
-    // Reading the identifier shows the proof that its counter fits.
-    let _known = first.counter();
     let mut bytes = [0; PIECE_BYTES];
-    let (count, end) = gather(first, parent, &ops[..ops.len().min(PIECE)], &mut bytes);
+    let (count, end) = gather(id, &parent, &ops[..ops.len().min(PIECE)], &mut bytes);
     if pay_for_typed(seq, held, spare, count).is_err() {
         return 0;
     }
     // That they are UTF-8 is proved: this call's `requires` asks for it, as any other call's.
     let characters = unsafe { from_utf8_unchecked(&bytes[..end]) };
-    seq.place_run(first, *parent, characters);
+    seq.place_run(id, parent, characters);
     count
 }
 
