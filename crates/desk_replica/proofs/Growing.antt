@@ -36,7 +36,7 @@ use Rattle.desk_replica.proofs.ElementPlaces.{element_at}
 use Rattle.desk_replica.proofs.Hearing.{room_left, room_within, told_grows}
 use Rattle.desk_replica.proofs.InTurn.{joined, joined_split, rest_from, split_at, take_behind, take_push}
 use Rattle.desk_replica.proofs.Tellings.{Stays, stays_old, stays_shown}
-use Rattle.desk_replica.proofs.Rows.{deletions-append, hidden_one, insertions-append}
+use Rattle.desk_replica.proofs.Rows.{deletions-append, insertions-append}
 
 -- what one list has another one has too
 abbrev pub IsListedIn : (xs ys : List OpView) → Type 0

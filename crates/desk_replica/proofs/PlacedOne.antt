@@ -11,7 +11,7 @@ use Rattle.bg_types.specs.declared.op.Place.TheVariants.{Root, After}
 use Rattle.bg_types.proofs.Interface.{id_cmp-total, same_id-is, unwrap_first}
 use Rattle.rga_tree.specs.Tree.{stands_in}
 use Rattle.rga_tree.specs.Elements.{with_element}
-use Rattle.pending_ops.specs.Waiting.{Waiting, follows, is_after, is_ready}
+use Rattle.pending_ops.specs.Waiting.{Waiting, follows, is_after}
 use Rattle.desk_replica.specs.Placement.{IsParted, PlacesIn}
 use Rattle.desk_replica.proofs.Whole.{some_not, same_unions}
 use Rattle.std.proofs.lemmas.Bool.{or_parts}

@@ -1,5 +1,5 @@
 -- What rows tell, one after the other: their insertions, and the hidden ones among them.
-use Rattle.std.proofs.Common.{◌≡◌, ◌+◌, ◌++◌, ℕ, true, false, cond, List, [], ◌∷◌, length, Some, ap, ◌∙◌}
+use Rattle.std.proofs.Common.{◌≡◌, ◌+◌, ◌++◌, ℕ, true, cond, List, [], ◌∷◌, length, Some, ap, ◌∙◌}
 use Rattle.std.specs.Prelude.{slice_get, filter, map as each}
 use Rattle.std.proofs.lemmas.List.{map-append}
 use Rattle.std.proofs.lemmas.List.Elements.{filter-append}

@@ -1,6 +1,6 @@
 -- Between two calls the tree holds what is attached of all operations that are kept.
-use Rattle.std.proofs.Common.{◌≡◌, Bool, true, false, not, cond, List, [], ◌∷◌, Option, None, Some, sym, ap, ◌∙◌, refl, true≢false, is_some}
-use Rattle.std.specs.Prelude.{◌||◌, map as each, filter}
+use Rattle.std.proofs.Common.{◌≡◌, true, false, not, cond, List, [], ◌∷◌, Option, None, Some, sym, ap, ◌∙◌, refl, true≢false, is_some}
+use Rattle.std.specs.Prelude.{map as each, filter}
 use Rattle.std.specs.List.{AllByRecursion}
 use Rattle.std.specs.FinMap as map
 use Rattle.std.specs.FinSet as set

@@ -1,11 +1,10 @@
 //! Where an operation goes: into the tree, or among those that wait.
 
-ghost use Rattle.std.specs.Prelude.{◌≡◌, ◌≤◌, ◌<◌, ◌+◌, ◌-◌, ◌⊎◌, ◌∷◌, [], ℕ, Some, true, false, OnOk, OnErr, IfOk, if◌then◌else◌};
+ghost use Rattle.std.specs.Prelude.{◌≡◌, ◌≤◌, ◌<◌, ◌+◌, ◌-◌, ◌∷◌, [], ℕ, Some, true, OnOk, OnErr, IfOk, if◌then◌else◌};
 ghost use Rattle.std.specs.Option.{option_map};
 ghost use Rattle.std.specs.FinMap as map;
 ghost use Rattle.std.specs.FinSet as set;
-ghost use Rattle.bg_types.specs.Identifier.{Identifier};
-ghost use Rattle.bg_types.specs.OperationSet.{Holds, MayJoin, ReusesIdentifier, AllWellFormed, with_operation, next, size, union};
+ghost use Rattle.bg_types.specs.OperationSet.{AllWellFormed, with_operation, next, size};
 ghost use Rattle.bg_types.specs.WellFormed.{IsWellFormed};
 ghost use Rattle.bg_types.specs.declared.op.OpView.TheVariants.{Insert};
 ghost use Rattle.rga_tree.specs.Tree.{stands_in};

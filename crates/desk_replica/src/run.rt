@@ -1,12 +1,11 @@
 //! Runs in front of a list: insertions that one site typed in one go, which are placed at once.
 
-ghost use Rattle.std.specs.Prelude.{◌≡◌, ◌≤◌, ◌<◌, ◌+◌, ◌-◌, ◌*◌, ◌^◌, All, length, take, true};
+ghost use Rattle.std.specs.Prelude.{◌≡◌, ◌≤◌, ◌<◌, ◌+◌, ◌-◌, ◌*◌, ◌^◌, All, length, take};
 ghost use Rattle.std.specs.Bool.{OnTrue};
 ghost use Rattle.std.specs.FinMap as map;
 ghost use Rattle.std.specs.Str.{chars, IsUtf8};
 ghost use Rattle.bg_types.specs.OperationSet.{next};
-ghost use Rattle.bg_types.specs.WellFormed.{IsWellFormed, MayFollow};
-ghost use Rattle.rga_tree.specs.Tree.{stands_in};
+ghost use Rattle.bg_types.specs.WellFormed.{IsWellFormed};
 ghost use Rattle.rga_tree.specs.Run.{insertions, with_operations};
 ghost use Rattle.desk_replica.specs.Placement.{IsPaid};
 ghost use Rattle.desk_replica.specs.Taking.{IsRunInFront};

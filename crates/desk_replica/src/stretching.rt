@@ -1,6 +1,6 @@
 //! What characters that are erased or typed at once change in a sequence.
 
-ghost use Rattle.std.specs.Prelude.{◌≡◌, ◌≤◌, ◌<◌, ◌+◌, ◌-◌, ◌^◌, ◌++◌, take, drop, length, All, OnOk, OnErr, IsOk, true, map as each, vec_len, vec_capacity};
+ghost use Rattle.std.specs.Prelude.{◌≡◌, ◌≤◌, ◌<◌, ◌+◌, ◌-◌, ◌^◌, ◌++◌, take, length, All, OnOk, OnErr, IsOk, true, map as each, vec_len, vec_capacity};
 ghost use Rattle.std.specs.FinMap as map;
 ghost use Rattle.std.specs.Str.{chars};
 ghost use Rattle.bg_types.specs.OperationSet.{next};

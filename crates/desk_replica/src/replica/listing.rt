@@ -1,6 +1,6 @@
 //! All operations of a desk, as one list.
 
-ghost use Rattle.std.specs.Prelude.{◌≡◌, ◌++◌, ◌≤◌, IfOk, OnOk};
+ghost use Rattle.std.specs.Prelude.{◌≡◌, ◌++◌, IfOk, OnOk};
 ghost use Rattle.std.specs.List.{All};
 ghost use Rattle.bg_types.specs.OperationSet.{size};
 ghost use Rattle.bg_types.specs.WellFormed.{MayFollow};
