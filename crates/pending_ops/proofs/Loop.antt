@@ -12,7 +12,7 @@ use Rattle.pending_ops.specs.Waiting.{NoneReady, Releases, TakesOut, Waiting, fo
 use Rattle.pending_ops.specs.Below.{CountsBelow, IsBelow, IsChain}
 use Rattle.pending_ops.specs.Chains.{AreApart}
 use Rattle.bg_types.specs.declared.op.OpView.TheVariants.{Insert, Erase}
-use Rattle.pending_ops.specs.Releasing.{PlacesBelow, PlacesEach, PlacesOne, is_placed, subject}
+use Rattle.pending_ops.specs.Releasing.{PlacesBelow, PlacesEach, PlacesOne, is_placed}
 use Rattle.pending_ops.proofs.Tables.{AreApart-distinct, one_of}
 use Rattle.pending_ops.proofs.Views.{contains-from_list}
 use Rattle.pending_ops.proofs.Listing.{len-from_list}

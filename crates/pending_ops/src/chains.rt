@@ -1,12 +1,12 @@
 //! The tables of a store: the held insertions, and for each parent the chain of those that name it.
 
-ghost use Rattle.std.specs.Prelude.{◌≡◌, ◌&&◌, not, ◌≤◌, ◌<◌, ◌+◌, ◌++◌, ◌∷◌, [], true, ℕ, List, length, slice_get, Some, None, OnOk, OnErr, IfSome, IfNone, IsSome, if◌then◌else◌, vec_len, vec_capacity};
+ghost use Rattle.std.specs.Prelude.{◌≡◌, ◌&&◌, not, ◌≤◌, ◌<◌, ◌+◌, ◌++◌, ◌∷◌, [], true, ℕ, List, length, slice_get, Some, None, IsSome, if◌then◌else◌, vec_len, vec_capacity};
 ghost use Rattle.indexmap.specs.IndexMap.{spare};
 ghost use Rattle.indexmap.specs.IndexSet as set;
 ghost use Rattle.bg_types.specs.Identifier.{Identifier, same_id};
 ghost use Rattle.pending_ops.specs.declared.chains.Slot.{Slot};
 ghost use Rattle.pending_ops.specs.Waiting.{is_after};
-ghost use Rattle.pending_ops.specs.Chains.{AreLinked, Links, first_in, is_in, slot_in};
+ghost use Rattle.pending_ops.specs.Chains.{Links, first_in, is_in, slot_in};
 
 use bg_types::{Id, Keyed, Place};
 use indexmap::{IndexMap, IndexSet};
@@ -75,13 +75,7 @@ pub fn append_chain(slots: &Table<Slot>, firsts: &Table<Id>, parent: Id, queue: 
 
 /// Takes the front off the chain of the parent that was released last: the next one is its first then. The parent of an
 /// empty chain is no longer released.
-pub fn unlink(
-    firsts: &mut Table<Id>,
-    released: &mut Names,
-    at: usize,
-    parent: Id,
-    next: Option<Id>,
-)
+pub fn unlink(firsts: &mut Table<Id>, released: &mut Names, at: usize, parent: Id, next: Option<Id>)
     requires first { IsSome (first_in firsts.old.entries parent) }
     requires at { (front : Identifier) × (slice_get firsts.old.entries at ≡ Some (parent, front)) }
     requires last { (before : List Identifier)

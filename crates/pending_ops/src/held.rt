@@ -1,22 +1,20 @@
 //! The store of early operations.
 
-ghost use Rattle.std.specs.Prelude.{◌≡◌, [], ◌≤◌, ◌<◌, ◌+◌, ◌-◌, ◌↔◌, max, true, false, ℕ, List, length, slice_get, Some, None, OnOk, OnErr, IfSome, IfNone, IsNone, IsOk, vec_len, vec_capacity};
+ghost use Rattle.std.specs.Prelude.{◌≡◌, [], ◌≤◌, ◌<◌, ◌+◌, ◌-◌, ◌↔◌, max, false, ℕ, length, slice_get, Some, None, OnOk, OnErr, IfSome, IfNone, IsNone, IsOk, vec_len, vec_capacity};
 ghost use Rattle.std.specs.Bool.{OnFalse};
 ghost use Rattle.std.specs.Option.{option_map};
 ghost use Rattle.std.specs.FinMap as map;
 ghost use Rattle.std.specs.FinSet as set;
 ghost use Rattle.bg_types.specs.Identifier.{Identifier};
-ghost use Rattle.bg_types.specs.OperationSet.{OperationSet, Node, with_operation, size};
-ghost use Rattle.bg_types.specs.WellFormed.{MayFollow, IsWellFormed};
+ghost use Rattle.bg_types.specs.OperationSet.{OperationSet, with_operation, size};
+ghost use Rattle.bg_types.specs.WellFormed.{MayFollow};
 ghost use Rattle.bg_types.specs.declared.op.OpView.TheVariants.{Insert, Erase};
-ghost use Rattle.pending_ops.specs.Waiting.{Waiting, IsNew, ListsOnce, NoneReady, Releases, TakesOut, nothing_waits, without_erasure, is_ready};
+ghost use Rattle.pending_ops.specs.Waiting.{Waiting, IsNew, ListsOnce, NoneReady, Releases, TakesOut, nothing_waits, without_erasure};
 ghost use Rattle.pending_ops.specs.Below.{CountsBelow};
 ghost use Rattle.pending_ops.specs.Chains.{HasRoom, IsChainOf, first_in, insertions_of, slot_in};
 ghost use Rattle.pending_ops.specs.declared.chains.Slot.{Slot};
 
-use crate::chains::{
-    Names, Slot, Table, append_chain, first_of, link, unlink,
-};
+use crate::chains::{Names, Slot, Table, append_chain, first_of, link, unlink};
 use bg_types::{Id, Keyed, Memory, Op, OpView, Place};
 use indexmap::{IndexMap, IndexSet};
 use std::alloc::{AllocError, Global};
