@@ -1,5 +1,5 @@
--- What desks have after a list of steps, and which steps are refused: the definition DeskSet.
-use Rattle.std.specs.Prelude.{◌≡◌, ℕ, List, [], ◌∷◌, Result, map as each, replicate, slice_set, slice_index_or}
+-- What desks have after a step, and which steps are refused: of the definition DeskSet.
+use Rattle.std.specs.Prelude.{◌≡◌, ℕ, List, Result, map as each, replicate, slice_set, slice_index_or}
 use Rattle.bg_types.specs.OperationSet.{OperationSet, no_operations, with_operation, union}
 use Rattle.bg_types.specs.declared.op.OpView.{OpView}
 use Rattle.desk_replica.specs.declared.answer.Taken.{Taken}
@@ -35,20 +35,11 @@ abbrev pub sets_after_step : List OperationSet → DeskStep → List OperationSe
 sets_after_step sets (takes desk op) = with_set sets desk (with_operation (set_at sets desk) op)
 sets_after_step sets (merges desk from) = with_set sets desk (union (set_at sets desk) (set_at sets from))
 
-abbrev pub sets_after : List OperationSet → List DeskStep → List OperationSet
-sets_after sets [] = sets
-sets_after sets (step ∷ steps) = sets_after (sets_after_step sets step) steps
-
 -- ---- which steps are refused
 
 abbrev pub IsStepRefused : List OperationSet → DeskStep → TakeFault → Type 0
 IsStepRefused sets (takes desk op) fault = IsRefusal (set_at sets desk) op fault
 IsStepRefused sets (merges desk from) fault = IsMergeRefusal (set_at sets desk) (set_at sets from) fault
-
--- no step is refused
-abbrev pub NoneRefused : List OperationSet → List DeskStep → Type 0
-NoneRefused sets [] = Unit {0}
-NoneRefused sets (step ∷ steps) = ((fault : TakeFault) → ¬ (IsStepRefused sets step fault)) × NoneRefused (sets_after_step sets step) steps
 
 -- a refused merge leaves the other desks as they were, and its own with a set that it may be left with
 pub record LeavesMerged (old new : List OperationSet) (desk from : ℕ) (fault : TakeFault) : Type 0 where
