@@ -103,7 +103,6 @@ module _ (t : OperationSet) (w : Waiting) (id : Identifier) (node : Node) (d : I
     first_step : Stepped t more own id node u v.held (is_ready v)
     first_step = record {
       was = got id ∙ ap (λ b. cond b (Some node) (map.get w.held.ins id)) (same_id-itself id);
-      was_ready = same_id-itself id;
       placed_ins = in_tree t w id node u v p;
       placed_del = del_tree t w id node u v p;
       held_ins = λ q. ap (λ m. map.get m q) (ins_held t w id node u v p) ∙ held_by q (same_id q id) refl ∙ ap (cond (same_id q id) None) (sym (got q));

@@ -35,7 +35,6 @@ pub stepped : (t : OperationSet) (w taken : Waiting) (id : Identifier) (node : N
     → Stepped t w.held (is_ready w) id node u v.held (is_ready v)
 stepped t w taken id node u v out p = record {
   was = out.was_held;
-  was_ready = out.was_ready;
   placed_ins = in_tree t taken id node u v p;
   placed_del = λ q. del_tree t taken id node u v p q ∙ ap (λ (x : OperationSet). (same_id q id && set.contains x.del id) || set.contains t.del q) out.held;
   held_ins = λ q. ap (λ m. map.get m q) (ins_held t taken id node u v p ∙ ap (λ (x : OperationSet). x.ins) out.held) ∙ map.get-remove id_cmp-total w.held.ins id q;

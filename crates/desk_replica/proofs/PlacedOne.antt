@@ -19,7 +19,6 @@ use Rattle.std.proofs.lemmas.Bool.{or_parts}
 -- what is placed and held after one step, at each identifier
 pub record Stepped (t h : OperationSet) (ready : Identifier → Bool) (id : Identifier) (node : Node) (u v : OperationSet) (next : Identifier → Bool) : Type 0 where
   pub was : map.get h.ins id ≡ Some node
-  pub was_ready : ready id ≡ true
   pub placed_ins : (q : Identifier) → map.get u.ins q ≡ cond (same_id q id) (Some node) (map.get t.ins q)
   pub placed_del : (q : Identifier) → set.contains u.del q ≡ ((same_id q id && set.contains h.del id) || set.contains t.del q)
   pub held_ins : (q : Identifier) → map.get v.ins q ≡ cond (same_id q id) None (map.get h.ins q)
