@@ -2,7 +2,6 @@
 use Rattle.std.proofs.Common.{Result, Ok, Err, cond, ◌≡◌, ℕ, suc, ◌+◌, ◌-◌, ◌<◌, ◌≤◌, List, [], ◌∷◌, ◌++◌, length, take, drop, get_or, slice_set, reverse, refl, map, sym, ap, ap₂, ◌∙◌, inl, inr, arith}
 use Rattle.std.proofs.lemmas.Bool.{cases_lt, false≢true}
 use Rattle.std.proofs.lemmas.List.{append-nil, length-append, length-map, get_or-map, get_or_append_left, get_or-append-add, map-set, map-append, take-map, drop-map, reverse-append, drop_all, take_all, take-append-le}
-use Rattle.std.proofs.lemmas.List.Concat.{get_or-flat_map}
 use Rattle.std.proofs.Math.Seq.{take-append-add}
 use Rattle.std.specs.List.{concat, insert, remove}
 use Rattle.std.specs.Prelude.{OnOk, OnErr}
@@ -318,24 +317,3 @@ module _ {K : Type 0} where
       let near : j < length x.pieces.items = omega (arith, inside, ap length row) in
       ap (λ n. get_or (texts_in bs) n []) (sym same) ∙ kept-at bs b s j inside ∙ ap (λ r. get_or (points_in r) j []) row
       ∙ get_or-map points_of x.pieces.items j p [] near ∙ ap points_of (sym at)
-
-  pub found-piece : (bs : List (Block K)) (b : Before) (x : Block K) (p : Piece K) (number : ℕ) → IsInFront bs b → x ≡ get_or bs b.block x → b.paragraphs ≤ number
-      → number < b.paragraphs + length (get_or (rows_of bs) b.block []) → p ≡ get_or x.pieces.items (number - b.paragraphs) p → get_or (pieces_in bs) number p ≡ p
-  found-piece bs b x p number s is reached here at =
-      let rows = rows_of bs in
-      let row = row-at bs b.block x s.within is in
-      let j = number - b.paragraphs in
-      let within : b.block < length rows = let w = s.within in omega (arith, length-rows bs) in
-      let same : length (joined (take b.block rows)) + j ≡ number = omega (arith, reached, s.paragraphs, length-points (joined (take b.block rows))) in
-      let inside : j < length (get_or rows b.block []) = omega (arith, reached, here) in
-      ap (λ n. get_or (joined rows) n p) (sym same) ∙ get_or-flat_map (λ (r : List (Piece K)). r) rows b.block j [] p within inside ∙ ap (λ r. get_or r j p) row ∙ sym at
-
-  pub found-front : (bs : List (Block K)) (b : Before) (x : Block K) (number : ℕ) → IsInFront bs b → x ≡ get_or bs b.block x → b.paragraphs ≤ number
-      → number < b.paragraphs + length (get_or (rows_of bs) b.block [])
-      → take number (texts_in bs) ≡ points_in (joined (take b.block (rows_of bs)) ++ take (number - b.paragraphs) x.pieces.items)
-  found-front bs b x number s is reached here =
-      let row = row-at bs b.block x s.within is in
-      let j = number - b.paragraphs in
-      let same : b.paragraphs + j ≡ number = omega (arith, reached) in
-      take-map points_of number (pieces_in bs) ∙ ap (λ n. points_in (take n (pieces_in bs))) (sym same) ∙ ap points_in (take-at bs b s j (omega (arith, reached, here)))
-      ∙ ap (λ r. points_in (joined (take b.block (rows_of bs)) ++ take j r)) row
