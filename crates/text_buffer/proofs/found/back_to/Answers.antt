@@ -21,7 +21,6 @@ overflow_sub-result-2 g c =
     let e = found-points bs c.args.block c.args.index n c.requires.block c.requires.inside number c.index-blocks-block.result p c.index-piece.ensures in
     let next : n + 1 ≡ f.number = omega (arith, c.requires.number) in
     let bytes = ap (λ k. bytes_in (concat (take k ps))) next in
-    let places = ap (λ k. length (concat (take k ps))) next in
     omega (arith, s.bytes, bytes, bytes-more-at ps n there, ap bytes_in e, bytes-piece p, ap length c.as_str.ensures.value)
 
 pub overflow_sub-result-3 : goal.overflow_sub-result-3
@@ -36,7 +35,6 @@ overflow_sub-result-3 g c =
     let p = c.index-piece.result.now in
     let e = found-points bs c.args.block c.args.index n c.requires.block c.requires.inside number c.index-blocks-block.result p c.index-piece.ensures in
     let next : n + 1 ≡ f.number = omega (arith, c.requires.number) in
-    let bytes = ap (λ k. bytes_in (concat (take k ps))) next in
     let places = ap (λ k. length (concat (take k ps))) next in
     omega (arith, s.places, places, places-more-at ps n there, ap length e, p.counted)
 

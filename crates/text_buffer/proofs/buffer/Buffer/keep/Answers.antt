@@ -12,18 +12,14 @@ use Rattle.text_buffer.proofs.buffer.Buffer.keep.Goals as goal
 
 pub set_kept_in-requires-clause-block : goal.set_kept_in-requires-clause-block
 set_kept_in-requires-clause-block g c =
-    let bs = c.self.inside.blocks.items in
     let b = c.block_near-before.result in
     let s = subst (λ all. IsInFront all b) c.deref.ensures.value c.block_near-before.ensures.stands in
-    let here = subst (λ all. c.args.number < b.paragraphs + length (get_or (rows_of all) b.block [])) c.deref.ensures.value c.block_near-before.ensures.here in
     let e = c.deref_mut.ensures.value in
     omega (arith, s.within, ap length e)
 
 pub set_kept_in-requires-clause-within : goal.set_kept_in-requires-clause-within
 set_kept_in-requires-clause-within g c =
-    let bs = c.self.inside.blocks.items in
     let b = c.block_near-before.result in
-    let s = subst (λ all. IsInFront all b) c.deref.ensures.value c.block_near-before.ensures.stands in
     let here = subst (λ all. c.args.number < b.paragraphs + length (get_or (rows_of all) b.block [])) c.deref.ensures.value c.block_near-before.ensures.here in
     let e = c.deref_mut.ensures.value in
     omega (arith, here, c.block_near-before.ensures.reached, ap (λ x. length (get_or (rows_of x) b.block [])) e)
@@ -31,9 +27,6 @@ set_kept_in-requires-clause-within g c =
 pub invariant_of-self : goal.invariant_of-self
 invariant_of-self g c =
     let bs = c.self.inside.blocks.items in
-    let b = c.block_near-before.result in
-    let s = subst (λ all. IsInFront all b) c.deref.ensures.value c.block_near-before.ensures.stands in
-    let here = subst (λ all. c.args.number < b.paragraphs + length (get_or (rows_of all) b.block [])) c.deref.ensures.value c.block_near-before.ensures.here in
     let e = c.deref_mut.ensures.value in
     let new = c.set_kept_in.new.blocks in
     let texts = c.set_kept_in.ensures.texts ∙ ap texts_in e in
@@ -45,9 +38,6 @@ invariant_of-self g c =
 pub returns-clause-paragraphs : goal.returns-clause-paragraphs
 returns-clause-paragraphs g c =
     let bs = c.self.inside.blocks.items in
-    let b = c.block_near-before.result in
-    let s = subst (λ all. IsInFront all b) c.deref.ensures.value c.block_near-before.ensures.stands in
-    let here = subst (λ all. c.args.number < b.paragraphs + length (get_or (rows_of all) b.block [])) c.deref.ensures.value c.block_near-before.ensures.here in
     let e = c.deref_mut.ensures.value in
     let new = c.set_kept_in.new.blocks in
     let texts = c.set_kept_in.ensures.texts ∙ ap texts_in e in
@@ -59,10 +49,8 @@ returns-clause-kept g c =
     let bs = c.self.inside.blocks.items in
     let b = c.block_near-before.result in
     let s = subst (λ all. IsInFront all b) c.deref.ensures.value c.block_near-before.ensures.stands in
-    let here = subst (λ all. c.args.number < b.paragraphs + length (get_or (rows_of all) b.block [])) c.deref.ensures.value c.block_near-before.ensures.here in
     let e = c.deref_mut.ensures.value in
     let new = c.set_kept_in.new.blocks in
-    let texts = c.set_kept_in.ensures.texts ∙ ap texts_in e in
     let all = written new bs c.self.inside.blocks.len (omega (arith, c.set_kept_in.auto.blocks, c.deref_mut.ensures.len)) (omega (arith, c.self.inside.blocks.ok)) in
     let at : length (joined (take b.block (rows_of bs))) + (c.args.number - b.paragraphs) ≡ c.args.number = omega (arith, s.paragraphs, length-points (joined (take b.block (rows_of bs))), c.block_near-before.ensures.reached) in
     ap (λ x. kept_in (seen_in x)) all ∙ seen-kept (pieces_in new) ∙ c.set_kept_in.ensures.kept

@@ -19,7 +19,6 @@ paragraph_with text byte place = Some (record { text = text; first_byte = byte; 
 pub returns-clause-text : goal.returns-clause-text
 returns-clause-text g c =
     let bs = c.self.inside.blocks.now in
-    let f = c.self.inside.found in
     let view = sym (seen-points (pieces_in bs)) ∙ ap (λ v. paragraphs_in v.paragraphs) c.self.view_is in
     let number = ap (λ v. v.number) c.self.view_is in
     ap (λ p. code_points p.text) c.new.ensures ∙ ap code_points c.as_str.ensures.value ∙ c.piece_at-piece.ensures.points ∙ ap₂ (λ t n. get_or t n []) view number
