@@ -1,6 +1,6 @@
 //! A text in paragraphs.
 
-ghost use Rattle.std.specs.Prelude.{◌≡◌, ◌+◌, ◌<◌, ◌≤◌, ◌↔◌, ℕ, Some, None, Err, insert, remove, length, map, take, drop, slice_get, slice_set, option_copied, encode_utf8_all, IfOk, IfErr, IsTrue, OnOk, OnErr};
+ghost use Rattle.std.specs.Prelude.{◌≡◌, ◌+◌, ◌<◌, ◌≤◌, ◌↔◌, ℕ, Some, Err, insert, remove, length, map, take, drop, slice_get, slice_set, option_copied, encode_utf8_all, IfOk, IfErr, IsTrue, OnOk, OnErr};
 ghost use Rattle.unicode_tables.specs.Tables.{TableValues};
 ghost use Rattle.std.specs.Str.{IsUtf8};
 ghost use Rattle.paragraphs.specs.Text.{code_points};
@@ -202,18 +202,6 @@ impl<K: Drop> Buffer<K> {
         let before = block_near(&self.blocks, self.near, number);
         let index = number - before.paragraphs;
         set_kept_in(&mut self.blocks, before.block, index, Some(value));
-    }
-
-    /// Drops what is kept of a paragraph.
-    /// Cost: O(d / 32 + 64) of the d paragraphs between it and where the buffer is.
-    pub fn forget(&mut self, number: usize)
-        requires { number < length self.old }
-        ensures paragraphs { paragraphs_in self.new ≡ paragraphs_in self.old }
-        ensures kept { kept_in self.new ≡ slice_set (kept_in self.old) number None }
-    {
-        let before = block_near(&self.blocks, self.near, number);
-        let index = number - before.paragraphs;
-        set_kept_in(&mut self.blocks, before.block, index, None);
     }
 
     /// Drops what is kept of all paragraphs but those from one number up to another.
