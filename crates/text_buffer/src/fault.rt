@@ -7,7 +7,7 @@ use bg_types::Memory;
 use thiserror::Error;
 
 /// Why a buffer refused a text or an edit. Each prints its bare name.
-#[derive(Clone, Copy, Debug, PartialEq, Eq, Hash, Error)]
+#[derive(Clone, Copy, Debug, PartialEq, Eq, Error)]
 pub enum BufferFault {
     /// The text would have more than 4,000,000 bytes.
     #[error("TooLong")]
@@ -41,7 +41,7 @@ impl From<Memory> for BufferFault {
 }
 
 /// Why changes were not all made: how many of them were, and what refused the edit that came next.
-#[derive(Clone, Copy, Debug, PartialEq, Eq, Hash)]
+#[derive(Clone, Copy, Debug, PartialEq, Eq)]
 pub struct Stopped {
     pub made: usize,
     pub fault: BufferFault,
