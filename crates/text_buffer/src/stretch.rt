@@ -3,7 +3,6 @@
 ghost use Rattle.std.specs.Prelude.{◌≡◌, ◌↔◌, ◌⊎◌, ◌+◌, ◌-◌, ◌<◌, ◌≤◌, ◌++◌, ◌==◌, ℕ, true, false, List, [], Err, length, get_or, string_bytes, IfOk, IfSome};
 ghost use Rattle.std.specs.List.{concat, list_any};
 ghost use Rattle.unicode_tables.specs.Tables.{bidi_of};
-ghost use Rattle.paragraphs.specs.Classes.{is_separator};
 ghost use Rattle.paragraphs.specs.Text.{code_points};
 ghost use Rattle.paragraphs.specs.Paragraphs.{meets_at_cut};
 ghost use Rattle.text_buffer.specs.Buffers.{bytes_in, Fits, IsSplit};
@@ -18,10 +17,10 @@ use crate::fault::BufferFault;
 use crate::find::{Before, back_to_place, block_in_front};
 use crate::parted::{joined_text, text_between};
 use crate::place::{Place, place_at, place_behind, text_at};
-use bg_types::{Bidi, Memory};
+use bg_types::Memory;
 use paragraphs::meets_at_cut;
 use std::alloc::Global;
-use unicode_tables::Tables;
+use unicode_tables::{Tables, is_separator};
 
 /// How many bytes a text has at most.
 pub const LIMIT: usize = 4_000_000;
@@ -116,15 +115,6 @@ fn has_separator(tables: &Tables, text: &str) -> bool
     ensures { result ≡ list_any (separates tables.now) (code_points text.now) }
 {
     text.chars().any(|c| is_separator(tables.bidi(c)))
-}
-
-/// Whether a class is that of separators (P1).
-#[inline]
-#[tactic(auto, unfolding(paragraphs::specs::Classes::is_separator))]
-fn is_separator(class: Bidi) -> bool
-    ensures { result ≡ is_separator class }
-{
-    matches!(class, Bidi::B)
 }
 
 /// Whether the last code point of a text is a separator.
