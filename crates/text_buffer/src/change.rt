@@ -37,25 +37,8 @@ pub fn pieces_of<K: Drop>(
     Ok(pieces)
 }
 
-/// The paragraphs of a text, all but the last one unless that is asked for.
-fn pieces_up_to<K: Drop>(
-    alloc: Global,
-    tables: &Tables,
-    text: &str,
-    last: bool,
-) -> Result<Vec<Piece<K>>, Memory>
-    ensures { let all = each (λ p. code_points p.text) (paragraphs tables.now text.now) in
-        IfOk result (λ pieces. each seen pieces.items ≡ each anew (if last then all else take (length all - 1) all)) }
-{
-    let mut pieces = pieces_of(alloc, tables, text)?;
-    if last {
-        return Ok(pieces);
-    }
-    pieces.pop();
-    Ok(pieces)
-}
-
-/// The paragraphs of a text that is known to be one, of so many code points, or is not.
+/// The paragraphs of a text, all but the last one unless that is asked for. A text that is known to be one, of so many code
+/// points, is not copied.
 fn pieces_of_stretch<K: Drop>(
     alloc: Global,
     tables: &Tables,
@@ -67,19 +50,16 @@ fn pieces_of_stretch<K: Drop>(
     ensures { let all = each (λ p. code_points p.text) (paragraphs tables.now (string_bytes text)) in
         IfOk result (λ pieces. each seen pieces.items ≡ each anew (if last then all else take (length all - 1) all)) }
 {
-    match one {
-        Some(places) => one_piece(alloc, text, places),
-        None => pieces_up_to(alloc, tables, &text, last),
+    if let Some(places) = one {
+        let mut pieces = Vec::with_capacity(alloc, 1)?;
+        pieces.push(Piece::holding(text, places))?;
+        return Ok(pieces);
     }
-}
-
-/// A text of so many code points as one paragraph. It is not copied.
-fn one_piece<K: Drop>(alloc: Global, text: String, places: usize) -> Result<Vec<Piece<K>>, Memory>
-    requires { places ≡ length (code_points (string_bytes text)) }
-    ensures { IfOk result (λ pieces. each seen pieces.items ≡ each anew (code_points (string_bytes text) ∷ [])) }
-{
-    let mut pieces = Vec::with_capacity(alloc, 1)?;
-    pieces.push(Piece::holding(text, places))?;
+    let mut pieces = pieces_of(alloc, tables, &text)?;
+    if last {
+        return Ok(pieces);
+    }
+    pieces.pop();
     Ok(pieces)
 }
 
