@@ -1,6 +1,6 @@
 //! Where paragraphs stand in their blocks.
 
-ghost use Rattle.std.specs.Prelude.{◌≡◌, ◌+◌, ◌-◌, ◌^◌, ◌<◌, ◌≤◌, [], length, get_or};
+ghost use Rattle.std.specs.Prelude.{◌≡◌, ◌+◌, ◌-◌, ◌<◌, ◌≤◌, [], length, get_or};
 ghost use Rattle.std.specs.List.{concat};
 ghost use Rattle.text_buffer.specs.Buffers.{bytes_in, Fits};
 ghost use Rattle.text_buffer.specs.Pieces.{points_in};
@@ -18,27 +18,6 @@ pub struct Before {
     pub paragraphs: usize,
     pub bytes: usize,
     pub places: usize,
-}
-
-impl Before {
-    /// The next block, behind this one.
-    fn past<K>(self, block: &Block<K>) -> Before
-        requires block { self.block < 2 ^ 63 }
-        requires paragraphs { self.paragraphs + length block.now.pieces.items ≤ 9_000_000 }
-        requires bytes { self.bytes + block.now.bytes ≤ 9_000_000 }
-        requires places { self.places + block.now.places ≤ 9_000_000 }
-        ensures block { result.block ≡ self.block + 1 }
-        ensures paragraphs { result.paragraphs ≡ self.paragraphs + length block.now.pieces.items }
-        ensures bytes { result.bytes ≡ self.bytes + block.now.bytes }
-        ensures places { result.places ≡ self.places + block.now.places }
-    {
-        Before {
-            block: self.block + 1,
-            paragraphs: self.paragraphs + block.pieces.len(),
-            bytes: self.bytes + block.bytes,
-            places: self.places + block.places,
-        }
-    }
 }
 
 /// The first block.
@@ -66,7 +45,13 @@ pub fn next_to<K>(blocks: &[Block<K>], before: Before) -> Before
     ensures places { result.places ≡ before.places + length (concat (points_in (get_or (rows_of blocks.now) before.block []))) }
     ensures block { result.block ≡ before.block + 1 }
 {
-    before.past(&blocks[before.block])
+    let own = &blocks[before.block];
+    Before {
+        block: before.block + 1,
+        paragraphs: before.paragraphs + own.pieces.len(),
+        bytes: before.bytes + own.bytes,
+        places: before.places + own.places,
+    }
 }
 
 /// The block in front of one that is not the first.
