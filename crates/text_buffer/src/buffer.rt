@@ -16,9 +16,7 @@ use crate::block::{Block, sum_up};
 use crate::change::{change, pieces_of};
 use crate::cursor::Cursor;
 use crate::fault::{BufferFault, Stopped};
-use crate::find::{
-    Before, at_or_in_front, back_to_place, block_at, block_near, first_block, spot_at,
-};
+use crate::find::{Before, at_or_in_front, back_to_place, block_at, block_near, spot_at};
 use crate::forget::forget_but;
 use crate::found::{find, find_at};
 use crate::replace::blocks_of;
@@ -92,14 +90,18 @@ impl<K: Drop> Buffer<K> {
         let paragraphs = pieces.len();
         let sums = sum_up(&pieces);
         let blocks = blocks_of(alloc, pieces)?;
-        let near = first_block(&blocks);
         Ok(Buffer {
             alloc,
             blocks,
             bytes: sums.bytes,
             places: sums.places,
             paragraphs,
-            near,
+            near: Before {
+                block: 0,
+                paragraphs: 0,
+                bytes: 0,
+                places: 0,
+            },
         })
     }
 

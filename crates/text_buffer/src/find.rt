@@ -20,21 +20,6 @@ pub struct Before {
     pub places: usize,
 }
 
-/// The first block.
-pub fn first_block<K>(blocks: &[Block<K>]) -> Before
-    requires { 0 < length blocks.now }
-    ensures stands { IsInFront blocks.now result }
-    ensures paragraphs { result.paragraphs ≡ 0 }
-    ensures places { result.places ≡ 0 }
-{
-    Before {
-        block: 0,
-        paragraphs: 0,
-        bytes: 0,
-        places: 0,
-    }
-}
-
 /// The block behind one that is not the last.
 pub fn next_to<K>(blocks: &[Block<K>], before: Before) -> Before
     requires stands { IsInFront blocks.now before }

@@ -8,8 +8,7 @@ use Rattle.text_buffer.specs.Buffers.{IsSplit, bytes_in, paragraphs_in}
 use Rattle.text_buffer.specs.Edits.{anew}
 use Rattle.text_buffer.specs.Pieces.{points_in, seen}
 use Rattle.text_buffer.specs.Blocks.{pieces_in, texts_in}
-use Rattle.text_buffer.specs.Places.{IsInFront}
-use Rattle.text_buffer.proofs.Places.{blocks-some, length-points, seen-points}
+use Rattle.text_buffer.proofs.Places.{blocks-some, length-points, seen-points, stands-first}
 use Rattle.text_buffer.proofs.Edits.{points-anew}
 use Rattle.text_buffer.proofs.Splits.{utf8-kept, parts-split, text-of_parts, split-of_parts, some-parts}
 use Rattle.text_buffer.proofs.Counted.{counted-new}
@@ -35,14 +34,6 @@ blocks_of-requires-clause-few g c =
     let bytes = ap bytes_in (text-of_parts c.args.tables.now _ (code_points text) is) ∙ ap length (encodes-chars text c.utf8.text) in
     omega (arith, bytes, c.if-text-gt-LIMIT.false)
 
-pub first_block-near-requires : goal.first_block-near-requires
-first_block-near-requires g c =
-    let bs = c.in_ok-blocks.blocks.items in
-    let ps = c.in_ok-pieces.pieces.items in
-    let is = points-anew ps _ c.in_ok-pieces.ensures ∙ points-parts c.args.tables.now c.args.text.now c.utf8.text in
-    let some = some-parts c.args.tables.now (points_in ps) (code_points c.args.text.now) is in
-    omega (arith, ap length c.deref-2.ensures.value, blocks-some bs (omega (arith, some, length-points ps, ap length c.in_ok-blocks.ensures)))
-
 pub invariant_of-result : goal.invariant_of-result
 invariant_of-result g c =
     let text = c.args.text.now in
@@ -56,7 +47,8 @@ invariant_of-result g c =
     let bytes = c.sum_up-sums.ensures.bytes ∙ ap bytes_in given in
     let places = c.sum_up-sums.ensures.places ∙ ap length given in
     let size = ap length c.in_ok-blocks.ensures in
-    counted-new tables bs _ _ _ _ points (subst (λ all. IsInFront all c.first_block-near.result) c.deref-2.ensures.value c.first_block-near.ensures.stands) (parts-split tables (texts_in bs) (utf8-kept bs) (split-of_parts tables (texts_in bs) points is)) whole bytes places
+    let some = blocks-some bs (omega (arith, some-parts tables (texts_in bs) points is, length-points (pieces_in bs))) in
+    counted-new tables bs _ _ _ _ points (stands-first bs _ some refl refl refl refl) (parts-split tables (texts_in bs) (utf8-kept bs) (split-of_parts tables (texts_in bs) points is)) whole bytes places
     (omega (arith, size, length-points (pieces_in bs), c.len-paragraphs.ensures, c.in_ok-pieces.pieces.ok)) (omega (arith, bytes, ap length (encodes-chars text c.utf8.text), c.if-text-gt-LIMIT.false))
 
 pub returns-clause-text : goal.returns-clause-text
