@@ -2,13 +2,13 @@
 
 ghost use Rattle.std.specs.Prelude.{◌≡◌, ◌↔◌, ◌+◌, ◌<◌, ◌≤◌, [], IfSome, None, IsTrue, is_some, length, take, get_or};
 ghost use Rattle.std.specs.List.{concat};
-ghost use Rattle.text_buffer.specs.Buffers.{bytes_in, Fits};
+ghost use Rattle.text_buffer.specs.Buffers.{Fits};
 ghost use Rattle.text_buffer.specs.Edits.{IsParagraphOf};
-ghost use Rattle.text_buffer.specs.Pieces.{points_of, points_in, kept_of};
+ghost use Rattle.text_buffer.specs.Pieces.{points_of, kept_of};
 ghost use Rattle.text_buffer.specs.Blocks.{rows_of, joined, pieces_in, texts_in};
 ghost use Rattle.text_buffer.specs.Places.{IsInFront, IsFound};
 
-use crate::block::{Block, Sums, sum_up};
+use crate::block::{Block, sum_up};
 use crate::find::{Before, back_to_place, block_near, spot_at};
 use crate::piece::Piece;
 use crate::rows::count_in;
@@ -33,7 +33,7 @@ pub fn find<K>(blocks: &[Block<K>], near: Before, number: usize) -> Found
 {
     let before = block_near(blocks, near, number);
     let index = number - before.paragraphs;
-    let sums = sums_before(blocks, before.block, index);
+    let sums = sum_up(&blocks[before.block].pieces[..index]);
     Found {
         block: before.block,
         index,
@@ -41,17 +41,6 @@ pub fn find<K>(blocks: &[Block<K>], near: Before, number: usize) -> Found
         bytes: before.bytes + sums.bytes,
         places: before.places + sums.places,
     }
-}
-
-/// The sums of the first `index` paragraphs of a block.
-fn sums_before<K>(blocks: &[Block<K>], block: usize, index: usize) -> Sums
-    requires block { block < length blocks.now }
-    requires within { index ≤ length (get_or (rows_of blocks.now) block []) }
-    requires few { bytes_in (concat (points_in (get_or (rows_of blocks.now) block []))) ≤ 9_000_000 }
-    ensures bytes { result.bytes ≡ bytes_in (concat (points_in (take index (get_or (rows_of blocks.now) block [])))) }
-    ensures places { result.places ≡ length (concat (points_in (take index (get_or (rows_of blocks.now) block [])))) }
-{
-    sum_up(&blocks[block].pieces[..index])
 }
 
 /// The paragraph in which a place stands, found from any block on.
