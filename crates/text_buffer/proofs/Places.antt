@@ -4,7 +4,6 @@ use Rattle.std.proofs.lemmas.Bool.{cases_lt, false≢true}
 use Rattle.std.proofs.lemmas.List.{append-nil, length-append, length-map, get_or-map, get_or_append_left, get_or-append-add, map-set, map-append, take-map, drop-map, reverse-append, drop_all, take_all, take-append-le}
 use Rattle.std.proofs.Math.Seq.{take-append-add}
 use Rattle.std.specs.List.{concat, insert, remove}
-use Rattle.std.specs.Prelude.{OnOk, OnErr}
 use Rattle.std.specs.Result.{IsOk, is_ok}
 use Rattle.text_buffer.specs.declared.piece.Piece.{Piece}
 use Rattle.text_buffer.specs.declared.block.Block.{Block}
@@ -45,11 +44,6 @@ module _ {K : Type 0} where
   pub seen-points : (ps : List (Piece K)) → paragraphs_in (map seen ps) ≡ points_in ps
   seen-points [] = refl
   seen-points (p ∷ ps) = ap (λ t. points_of p ∷ t) (seen-points ps)
-
--- what follows from either follows
-pub ok-or-err : {T E P Q R : Type 0} (r : Result T E) → (P → R) → (Q → R) → OnOk r P → OnErr r Q → R
-ok-or-err (Ok v) f h p q = f p
-ok-or-err (Err e) f h p q = h q
 
 pub if_ok : {T E X : Type 0} (r : Result T E) (x a b : X) → IsOk r → x ≡ cond (is_ok r) a b → x ≡ a
 if_ok (Ok v) x a b h e = e

@@ -11,7 +11,7 @@ use crate::block::Block;
 use crate::find::{Before, block_of, next_to};
 use crate::piece::Piece;
 use crate::row::splice;
-use crate::rows::{count_in, drop_front_in, join_at, part_at, replace_in};
+use crate::rows::{count_in, drop_front_in, join_at, part_at};
 use bg_types::Memory;
 use std::alloc::Global;
 
@@ -95,7 +95,7 @@ fn replace_apart<K: Drop>(
     if to > before.paragraphs + count || count - (to - from) + pieces.len() > FULL {
         return replace_far(alloc, blocks, before, from, to, pieces);
     }
-    replace_near(blocks, before, from, to, pieces)
+    blocks[before.block].replace(from - before.paragraphs, to - before.paragraphs, pieces)
 }
 
 /// Joins each of these blocks with the one behind it, where the two are sparse.
@@ -127,28 +127,6 @@ fn is_sparse<K>(blocks: &[Block<K>], q: usize) -> bool
         return false;
     }
     count_in(blocks, q + 1) <= HALF - count_in(blocks, q)
-}
-
-/// Puts these paragraphs in the place of some of one block.
-fn replace_near<K: Drop>(
-    blocks: &mut [Block<K>],
-    before: Before,
-    from: usize,
-    to: usize,
-    pieces: Vec<Piece<K>>,
-) -> Result<(), Memory>
-    requires stands { IsInFront blocks.old before }
-    requires reached { before.paragraphs ≤ from }
-    requires order { from < to }
-    requires here { to ≤ before.paragraphs + length (get_or (rows_of blocks.old) before.block []) }
-    requires some { 0 < vec_len pieces }
-    requires few { bytes_in (concat (texts_in blocks.old)) + bytes_in (concat (points_in pieces.items)) ≤ 9_000_000 }
-    ensures ok { OnOk result (pieces_in blocks.new ≡ take from (pieces_in blocks.old) ++ (pieces.items ++ drop to (pieces_in blocks.old))) }
-    ensures err { OnErr result (pieces_in blocks.new ≡ pieces_in blocks.old) }
-    ensures front { take before.block (rows_of blocks.new) ≡ take before.block (rows_of blocks.old) }
-{
-    let number = before.paragraphs;
-    replace_in(blocks, before.block, from - number, to - number, pieces)
 }
 
 /// Puts these paragraphs in the place of some that reach into other blocks: new blocks stand in the place of all that end

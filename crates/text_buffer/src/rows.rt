@@ -71,26 +71,6 @@ fn take_on_in<K: Drop>(blocks: &mut [Block<K>], q: usize, next: Block<K>) -> Res
     blocks[q].take_on(next)
 }
 
-/// Puts others, at least one, in the place of paragraphs `from` up to `to` of block q.
-pub fn replace_in<K: Drop>(
-    blocks: &mut [Block<K>],
-    q: usize,
-    from: usize,
-    to: usize,
-    pieces: Vec<Piece<K>>,
-) -> Result<(), Memory>
-    requires block { q < length blocks.old }
-    requires order { from ≤ to }
-    requires within { to ≤ length (get_or (rows_of blocks.old) q []) }
-    requires some { 0 < vec_len pieces }
-    requires few { bytes_in (concat (points_in (get_or (rows_of blocks.old) q []))) + bytes_in (concat (points_in pieces.items)) ≤ 9_000_000 }
-    ensures ok { let row = get_or (rows_of blocks.old) q [] in
-        OnOk result (rows_of blocks.new ≡ slice_set (rows_of blocks.old) q (take from row ++ (pieces.items ++ drop to row))) }
-    ensures err { OnErr result (rows_of blocks.new ≡ rows_of blocks.old) }
-{
-    blocks[q].replace(from, to, pieces)
-}
-
 /// Takes the first `count` paragraphs of block q away, which has more.
 pub fn drop_front_in<K: Drop>(blocks: &mut [Block<K>], q: usize, count: usize)
     requires block { q < length blocks.old }
