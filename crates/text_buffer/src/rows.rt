@@ -30,21 +30,9 @@ pub fn part_at<K: Drop>(blocks: &mut Vec<Block<K>>, q: usize, number: usize) -> 
     ensures more { OnOk result (vec_len blocks.new ≡ vec_len blocks.old + 1) }
 {
     blocks.reserve(1)?;
-    let upper = part_in(blocks, q, number)?;
+    let upper = blocks[q].part(number)?;
     blocks.insert(q + 1, upper).unwrap();
     Ok(())
-}
-
-fn part_in<K: Drop>(blocks: &mut [Block<K>], q: usize, number: usize) -> Result<Block<K>, Memory>
-    requires block { q < length blocks.old }
-    requires some { 0 < number }
-    requires within { number < length (get_or (rows_of blocks.old) q []) }
-    requires few { bytes_in (concat (points_in (get_or (rows_of blocks.old) q []))) ≤ 9_000_000 }
-    ensures low { OnOk result (rows_of blocks.new ≡ slice_set (rows_of blocks.old) q (take number (get_or (rows_of blocks.old) q []))) }
-    ensures high { IfOk result (λ upper. upper.pieces.items ≡ drop number (get_or (rows_of blocks.old) q [])) }
-    ensures err { OnErr result (rows_of blocks.new ≡ rows_of blocks.old) }
-{
-    blocks[q].part(number)
 }
 
 /// Joins block q with the next one, if there is memory for that. The paragraphs stay.
