@@ -43,20 +43,10 @@ pub fn join_at<K: Drop>(blocks: &mut Vec<Block<K>>, q: usize)
     ensures front { take q (rows_of blocks.new.items) ≡ take q (rows_of blocks.old.items) }
 {
     let next = blocks.remove(q + 1);
-    let Err(next) = take_on_in(blocks, q, next) else {
+    let Err(next) = blocks[q].take_on(next) else {
         return;
     };
     blocks.insert(q + 1, next).unwrap();
-}
-
-fn take_on_in<K: Drop>(blocks: &mut [Block<K>], q: usize, next: Block<K>) -> Result<(), Block<K>>
-    requires block { q < length blocks.old }
-    requires few { bytes_in (concat (points_in (get_or (rows_of blocks.old) q []))) + bytes_in (concat (points_in next.pieces.items)) ≤ 9_000_000 }
-    ensures ok { OnOk result (rows_of blocks.new ≡ slice_set (rows_of blocks.old) q (get_or (rows_of blocks.old) q [] ++ next.pieces.items)) }
-    ensures err { OnErr result (rows_of blocks.new ≡ rows_of blocks.old) }
-    ensures back { IfErr result (λ block. block.pieces.items ≡ next.pieces.items) }
-{
-    blocks[q].take_on(next)
 }
 
 /// Takes the first `count` paragraphs of block q away, which has more.
