@@ -11,7 +11,7 @@ use crate::block::Block;
 use crate::find::{Before, block_of, next_to};
 use crate::piece::Piece;
 use crate::row::splice;
-use crate::rows::{count_in, drop_front_in, join_at, part_at};
+use crate::rows::{count_in, join_at, part_at};
 use bg_types::Memory;
 use std::alloc::Global;
 
@@ -159,7 +159,7 @@ fn replace_far<K: Drop>(
     if end.rest == 0 {
         return Ok(());
     }
-    drop_front_in(blocks, start.block + count, end.rest);
+    blocks[start.block + count].drop_front(end.rest);
     Ok(())
 }
 

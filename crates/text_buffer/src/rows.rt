@@ -49,16 +49,6 @@ pub fn join_at<K: Drop>(blocks: &mut Vec<Block<K>>, q: usize)
     blocks.insert(q + 1, next).unwrap();
 }
 
-/// Takes the first `count` paragraphs of block q away, which has more.
-pub fn drop_front_in<K: Drop>(blocks: &mut [Block<K>], q: usize, count: usize)
-    requires block { q < length blocks.old }
-    requires within { count < length (get_or (rows_of blocks.old) q []) }
-    requires few { bytes_in (concat (points_in (get_or (rows_of blocks.old) q []))) ≤ 9_000_000 }
-    ensures { rows_of blocks.new ≡ slice_set (rows_of blocks.old) q (drop count (get_or (rows_of blocks.old) q [])) }
-{
-    blocks[q].drop_front(count);
-}
-
 /// What is kept of paragraph `number` of block q, or nothing.
 pub fn kept_at<K>(blocks: &[Block<K>], q: usize, number: usize) -> Option<&K>
     requires block { q < length blocks.now }
