@@ -1,12 +1,12 @@
 //! Blocks of paragraphs.
 
-ghost use Rattle.std.specs.Prelude.{◌≡◌, ◌+◌, ◌<◌, ◌≤◌, ◌++◌, length, take, drop, slice_set, vec_len, IfOk, IfErr, OnOk, OnErr};
+ghost use Rattle.std.specs.Prelude.{◌≡◌, ◌+◌, ◌<◌, ◌≤◌, ◌++◌, Some, length, take, drop, slice_set, vec_len, IfOk, IfErr, OnOk, OnErr};
 ghost use Rattle.std.specs.List.{concat};
 ghost use Rattle.text_buffer.specs.Buffers.{bytes_in};
 ghost use Rattle.text_buffer.specs.Pieces.{points_in, kept_of, kept_count};
 ghost use Rattle.text_buffer.specs.Forgetting.{left_of};
 
-use crate::piece::{Piece, count_of};
+use crate::piece::Piece;
 use crate::row::{drop_front, splice};
 use crate::spared::Spared;
 use bg_types::Memory;
@@ -146,17 +146,16 @@ impl<K: Drop> Block<K> {
         self.kept -= gone.kept;
     }
 
-    /// Keeps this of paragraph `number`, or nothing.
-    pub fn set_kept(&mut self, number: usize, kept: Option<K>)
+    /// Keeps a value beside paragraph `number`.
+    pub fn keep(&mut self, number: usize, value: K)
         requires { number < length self.old.pieces.items }
         ensures points { points_in self.new.pieces.items ≡ points_in self.old.pieces.items }
-        ensures kept { kept_of self.new.pieces.items ≡ slice_set (kept_of self.old.pieces.items) number kept }
+        ensures kept { kept_of self.new.pieces.items ≡ slice_set (kept_of self.old.pieces.items) number (Some value) }
     {
-        let is = count_of(&kept);
         let was = self.pieces[number].kept_count();
         let piece = &mut self.pieces[number];
-        piece.kept = kept;
-        self.kept = self.kept - was + is;
+        piece.kept = Some(value);
+        self.kept = self.kept - was + 1;
     }
 
     /// Drops what is kept of all but these of its paragraphs, of which the first has this number.

@@ -20,7 +20,6 @@ use crate::find::{Before, at_or_in_front, back_to_place, block_at, block_near, s
 use crate::forget::forget_but;
 use crate::found::{find, find_at};
 use crate::replace::blocks_of;
-use crate::rows::{kept_at, set_kept_in};
 use crate::run::{are_in_range, first_run};
 use crate::spared::Spared;
 use crate::stretch::{LIMIT, plan_edit};
@@ -190,8 +189,9 @@ impl<K: Drop> Buffer<K> {
         ensures { slice_get (kept_in self.now) number ≡ Some (option_copied result) }
     {
         let before = block_near(&self.blocks, self.near, number);
-        let index = number - before.paragraphs;
-        kept_at(&self.blocks, before.block, index)
+        self.blocks[before.block].pieces[number - before.paragraphs]
+            .kept
+            .as_ref()
     }
 
     /// Keeps a value beside a paragraph, until an edit makes it anew or another takes its place.
@@ -202,8 +202,7 @@ impl<K: Drop> Buffer<K> {
         ensures kept { kept_in self.new ≡ slice_set (kept_in self.old) number (Some value) }
     {
         let before = block_near(&self.blocks, self.near, number);
-        let index = number - before.paragraphs;
-        set_kept_in(&mut self.blocks, before.block, index, Some(value));
+        self.blocks[before.block].keep(number - before.paragraphs, value);
     }
 
     /// Drops what is kept of all paragraphs but those from one number up to another.

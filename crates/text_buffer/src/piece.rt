@@ -61,14 +61,6 @@ impl<K> Piece<K> {
     pub fn kept_count(&self) -> usize
         ensures { result ≡ cond (is_some self.now.kept) 1 0 }
     {
-        count_of(&self.kept)
+        if self.kept.is_some() { 1 } else { 0 }
     }
-}
-
-/// Whether something is kept, as a count.
-#[inline]
-pub fn count_of<K>(kept: &Option<K>) -> usize
-    ensures { result ≡ cond (is_some kept.now) 1 0 }
-{
-    if kept.is_some() { 1 } else { 0 }
 }

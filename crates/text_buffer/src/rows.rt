@@ -1,13 +1,11 @@
 //! Blocks in the order of the text.
 
-ghost use Rattle.std.specs.Prelude.{◌≡◌, ◌+◌, ◌<◌, ◌≤◌, ◌++◌, [], Some, length, map as each, take, drop, get_or, slice_get, slice_set, option_copied, vec_len, IfOk, IfErr, OnOk, OnErr};
+ghost use Rattle.std.specs.Prelude.{◌≡◌, ◌+◌, ◌<◌, ◌≤◌, [], length, take, get_or, vec_len, OnOk};
 ghost use Rattle.std.specs.List.{concat};
 ghost use Rattle.text_buffer.specs.Buffers.{bytes_in};
-ghost use Rattle.text_buffer.specs.Pieces.{points_in, kept_of};
-ghost use Rattle.text_buffer.specs.Blocks.{joined, rows_of, pieces_in, texts_in};
+ghost use Rattle.text_buffer.specs.Blocks.{rows_of, pieces_in, texts_in};
 
 use crate::block::Block;
-use crate::piece::Piece;
 use bg_types::Memory;
 
 /// How many paragraphs block q has.
@@ -47,24 +45,4 @@ pub fn join_at<K: Drop>(blocks: &mut Vec<Block<K>>, q: usize)
         return;
     };
     blocks.insert(q + 1, next).unwrap();
-}
-
-/// What is kept of paragraph `number` of block q, or nothing.
-pub fn kept_at<K>(blocks: &[Block<K>], q: usize, number: usize) -> Option<&K>
-    requires block { q < length blocks.now }
-    requires within { number < length (get_or (rows_of blocks.now) q []) }
-    ensures { slice_get (kept_of (pieces_in blocks.now)) (length (joined (take q (rows_of blocks.now))) + number) ≡ Some (option_copied result) }
-{
-    blocks[q].pieces[number].kept.as_ref()
-}
-
-/// Keeps this of paragraph `number` of block q, or nothing.
-pub fn set_kept_in<K: Drop>(blocks: &mut [Block<K>], q: usize, number: usize, kept: Option<K>)
-    requires block { q < length blocks.old }
-    requires within { number < length (get_or (rows_of blocks.old) q []) }
-    ensures rows { each points_in (rows_of blocks.new) ≡ each points_in (rows_of blocks.old) }
-    ensures texts { texts_in blocks.new ≡ texts_in blocks.old }
-    ensures kept { kept_of (pieces_in blocks.new) ≡ slice_set (kept_of (pieces_in blocks.old)) (length (joined (take q (rows_of blocks.old))) + number) kept }
-{
-    blocks[q].set_kept(number, kept);
 }
