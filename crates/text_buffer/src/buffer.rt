@@ -212,7 +212,7 @@ impl<K: Drop> Buffer<K> {
         ensures paragraphs { paragraphs_in self.new ≡ paragraphs_in self.old }
         ensures kept { kept_in self.new ≡ kept_but from to (kept_in self.old) }
     {
-        self.forget_others(Spared::between(from, to));
+        self.forget_in_turn(from, to, 1, 0);
     }
 
     /// Drops what is kept of each paragraph whose number leaves `turn` when it is divided by `step`, but of none from one number
@@ -223,20 +223,12 @@ impl<K: Drop> Buffer<K> {
         ensures paragraphs { paragraphs_in self.new ≡ paragraphs_in self.old }
         ensures kept { kept_in self.new ≡ left_of (record { from = from; to = to; step = step; turn = turn }) 0 (kept_in self.old) }
     {
-        self.forget_others(Spared {
+        let spared = Spared {
             from,
             to,
             step,
             turn,
-        });
-    }
-
-    /// Drops what is kept of all but these paragraphs.
-    fn forget_others(&mut self, spared: Spared)
-        requires { 0 < spared.step }
-        ensures paragraphs { paragraphs_in self.new ≡ paragraphs_in self.old }
-        ensures kept { kept_in self.new ≡ left_of spared 0 (kept_in self.old) }
-    {
+        };
         forget_but(&mut self.blocks, spared);
     }
 

@@ -14,18 +14,6 @@ pub struct Spared {
 }
 
 impl Spared {
-    /// Those from one number up to another alone.
-    pub fn between(from: usize, to: usize) -> Spared
-        ensures { result ≡ record { from = from; to = to; step = 1; turn = 0 } }
-    {
-        Spared {
-            from,
-            to,
-            step: 1,
-            turn: 0,
-        }
-    }
-
     /// Whether the paragraph with this number is one of them.
     #[inline]
     pub fn has(&self, number: usize) -> bool

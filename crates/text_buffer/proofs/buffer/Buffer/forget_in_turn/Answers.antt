@@ -1,5 +1,6 @@
 -- The texts are the same, and less is kept.
 use Rattle.std.proofs.Common.{map, sym, ap, subst, ◌∙◌, arith}
+use Rattle.text_buffer.specs.declared.spared.Spared.{Spared}
 use Rattle.text_buffer.specs.Buffers.{paragraphs_in, kept_in}
 use Rattle.text_buffer.specs.Pieces.{points_in, kept_of}
 use Rattle.text_buffer.specs.Blocks.{rows_of, pieces_in, texts_in, seen_in}
@@ -7,7 +8,7 @@ use Rattle.text_buffer.specs.Counted.{IsCounted}
 use Rattle.text_buffer.specs.Forgetting.{left_of}
 use Rattle.text_buffer.proofs.Counted.{counted-same}
 use Rattle.text_buffer.proofs.Places.{seen-points, seen-kept, stands-alike, written}
-use Rattle.text_buffer.proofs.buffer.Buffer.forget_others.Goals as goal
+use Rattle.text_buffer.proofs.buffer.Buffer.forget_in_turn.Goals as goal
 
 pub invariant_of-self : goal.invariant_of-self
 invariant_of-self g c =
@@ -36,5 +37,6 @@ returns-clause-kept g c =
     let new = c.forget_but.new.blocks in
     let all = written new bs c.self.inside.blocks.len (omega (arith, c.forget_but.auto.blocks, c.deref_mut.ensures.len)) (omega (arith, c.self.inside.blocks.ok)) in
     let view = sym (seen-kept (pieces_in bs)) ∙ ap kept_in c.self.view_is in
-    ap (λ x. kept_in (seen_in x)) all ∙ seen-kept (pieces_in new) ∙ c.forget_but.ensures.kept ∙ ap (λ x. left_of c.args.spared 0 (kept_of (pieces_in x))) e
-    ∙ ap (left_of c.args.spared 0) view
+    let spared : Spared = record { from = c.args.from; to = c.args.to; step = c.args.step; turn = c.args.turn } in
+    ap (λ x. kept_in (seen_in x)) all ∙ seen-kept (pieces_in new) ∙ c.forget_but.ensures.kept ∙ ap (λ x. left_of spared 0 (kept_of (pieces_in x))) e
+    ∙ ap (left_of spared 0) view
