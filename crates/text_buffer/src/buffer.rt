@@ -16,7 +16,7 @@ use crate::block::{Block, sum_up};
 use crate::change::{change, pieces_of};
 use crate::cursor::Cursor;
 use crate::fault::{BufferFault, Stopped};
-use crate::find::{Before, at_or_in_front, back_to_place, block_at, block_near, spot_at};
+use crate::find::{Before, at_or_in_front, back_to_place, block_at, block_near};
 use crate::forget::forget_but;
 use crate::found::{find, find_at};
 use crate::replace::blocks_of;
@@ -177,9 +177,7 @@ impl<K: Drop> Buffer<K> {
         requires { place ≤ length (text_in self.now) }
         ensures { IsParagraphOf (paragraphs_in self.now) place result }
     {
-        let start = back_to_place(&self.blocks, self.near, place);
-        let (_, spot) = spot_at(&self.blocks, start, place);
-        spot.number
+        find_at(&self.blocks, self.near, place).number
     }
 
     /// What is kept of a paragraph, or nothing.
