@@ -128,7 +128,7 @@ fn ends_with_separator(tables: &Tables, text: &str) -> bool
 }
 
 /// What is made anew where a text takes the place of paragraphs up to `to`, from that of a place on: these, and the one in
-/// front of them, where the text may not meet it at a cut.
+/// front of them, where it no longer ends there. If nothing is left of the text, that one is the last, and is made anew too.
 fn stretch_at<K>(
     alloc: Global,
     tables: &Tables,
@@ -162,48 +162,19 @@ fn stretch_at<K>(
             text,
         });
     }
-    with_front(alloc, tables, blocks, first.block, first.number, to, text)
-}
-
-/// With the paragraph in front, where it no longer ends there. If nothing is left of the text, that one is the last, and
-/// is made anew too.
-fn with_front<K>(
-    alloc: Global,
-    tables: &Tables,
-    blocks: &[Block<K>],
-    block: Before,
-    number: usize,
-    to: usize,
-    text: String,
-) -> Result<Stretch, Memory>
-    requires block { IsBlockOf blocks.now block number }
-    requires behind { 0 < number }
-    requires order { number < to }
-    requires within { to ≤ length (texts_in blocks.now) }
-    requires fits { Fits (texts_in blocks.now) }
-    requires split { IsSplit tables.now (texts_in blocks.now) }
-    ensures block { IfOk result (λ s. IsBlockOf blocks.now s.block s.from) }
-    ensures begun { IfOk result (λ s. IsBegun tables.now (texts_in blocks.now) s.from s.to (code_points (string_bytes s.text))) }
-    ensures text { IfOk result (λ s. text_with (texts_in blocks.now) s.from s.to (code_points (string_bytes s.text))
-        ≡ text_with (texts_in blocks.now) number to (code_points (string_bytes text))) }
-    ensures from { IfOk result (λ s. (s.from ≡ number) ⊎ (s.from + 1 ≡ number)) }
-    ensures to { IfOk result (λ s. s.to ≡ to) }
-    ensures same { IfOk result (λ s. s.from ≡ number → string_bytes s.text ≡ string_bytes text) }
-    ensures ends { IfOk result (λ s. (front : List ℕ) × (code_points (string_bytes s.text) ≡ front ++ code_points (string_bytes text))) }
-{
-    let in_front = block_in_front(blocks, block, number);
-    let before = text_at(blocks, in_front, number - 1);
+    let in_front = block_in_front(blocks, first.block, first.number);
+    let before = text_at(blocks, in_front, first.number - 1);
     if !text.is_empty() && meets_at_cut(tables, before, &text) {
         return Ok(Stretch {
-            block,
-            from: number,
+            block: first.block,
+            from: first.number,
             to,
             text,
         });
     }
     Ok(Stretch {
         block: in_front,
-        from: number - 1,
+        from: first.number - 1,
         to,
         text: joined_text(alloc, before, &text)?,
     })
