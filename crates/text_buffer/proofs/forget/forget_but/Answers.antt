@@ -3,11 +3,12 @@ use Rattle.std.proofs.Common.{◌+◌, ◌<◌, ◌≤◌, [], length, map, get_
 use Rattle.std.proofs.lemmas.List.{take_all}
 use Rattle.std.proofs.Math.Seq.{map-set_same}
 use Rattle.std.specs.List.{concat}
+use Rattle.std.specs.Prelude.{slice_set}
 use Rattle.text_buffer.specs.Buffers.{bytes_in}
 use Rattle.text_buffer.specs.Pieces.{points_in, kept_of}
 use Rattle.text_buffer.specs.Blocks.{rows_of, joined}
 use Rattle.text_buffer.specs.Forgetting.{left_of}
-use Rattle.text_buffer.proofs.Places.{length-rows, bytes-row}
+use Rattle.text_buffer.proofs.Places.{length-rows, row-get, rows-set, bytes-row}
 use Rattle.text_buffer.proofs.Founds.{texts-length}
 use Rattle.text_buffer.proofs.Forgets.{AreSwept, rows-swept, same-at}
 use Rattle.text_buffer.proofs.forget.forget_but.Goals as goal
@@ -15,23 +16,22 @@ use Rattle.text_buffer.proofs.forget.forget_but.Goals as goal
 pub loop-q-init : goal.loop-q-init
 loop-q-init g c = record { swept = record { size = refl; before_is = refl; points = refl; kept = refl; back = refl }; rows = refl }
 
-pub forget_but_in-requires-clause-few : goal.forget_but_in-requires-clause-few
-forget_but_in-requires-clause-few g c =
+pub forget_but-requires-clause-few : goal.forget_but-requires-clause-few
+forget_but-requires-clause-few g c =
     let old = c.args.blocks.now in
     let now = c.loop-q.blocks in
     let q = c.loop-q.q in
-    let s = c.loop-q.invariant.swept in
     let within : q < length old = omega (arith, c.loop-q-test.true, c.loop-q.auto.blocks) in
-    let row = same-at (rows_of now) (rows_of old) q [] s.back in
+    let here : q < length now = omega (arith, c.loop-q-test.true, c.loop-q.auto.blocks) in
+    let row = sym (row-get now q c.index-blocks-q.result here) ∙ same-at (rows_of now) (rows_of old) q [] c.loop-q.invariant.swept.back in
     omega (arith, ap (λ r. bytes_in (concat (points_in r))) row, bytes-row old q within, c.requires.texts.bytes)
 
-pub forget_but_in-requires-clause-before : goal.forget_but_in-requires-clause-before
-forget_but_in-requires-clause-before g c =
+pub forget_but-requires-clause-first : goal.forget_but-requires-clause-first
+forget_but-requires-clause-first g c =
     let old = c.args.blocks.now in
     let q = c.loop-q.q in
-    let s = c.loop-q.invariant.swept in
     let within : q < length old = omega (arith, c.loop-q-test.true, c.loop-q.auto.blocks) in
-    omega (arith, s.before_is, texts-length old q within, c.requires.texts.paragraphs)
+    omega (arith, c.loop-q.invariant.swept.before_is, texts-length old q within, c.requires.texts.paragraphs)
 
 pub overflow_add-before : goal.overflow_add-before
 overflow_add-before g c =
@@ -48,14 +48,18 @@ loop-q-preserved g c =
     let old = c.args.blocks.now in
     let now = c.loop-q.blocks in
     let q = c.loop-q.q in
-    let s = c.loop-q.invariant.swept in
-    let e = c.forget_but_in.ensures in
+    let new = c.forget_but.new.self in
+    let e = c.forget_but.ensures in
     let within : q < length (rows_of old) = omega (arith, c.loop-q-test.true, c.loop-q.auto.blocks, length-rows old) in
-    let next = rows-swept c.args.spared (rows_of old) (rows_of now) q c.loop-q.before s (get_or (rows_of c.forget_but_in.new.blocks) q []) within e.points e.kept in
+    let here : q < length now = omega (arith, c.loop-q-test.true, c.loop-q.auto.blocks) in
+    let row = sym (row-get now q c.index-blocks-q.result here) in
+    let points = e.points ∙ ap points_in row in
+    let kept = e.kept ∙ ap (λ r. left_of c.args.spared c.loop-q.before (kept_of r)) row in
+    let next = rows-swept c.args.spared (rows_of old) (rows_of now) q c.loop-q.before c.loop-q.invariant.swept new.pieces.items within points kept in
     record {
-      swept = subst (λ b. AreSwept c.args.spared (rows_of old) (rows_of c.forget_but_in.new.blocks) (q + 1) (c.loop-q.before + b)) (sym c.count_in-count.ensures)
-          (subst (λ r. AreSwept c.args.spared (rows_of old) r (q + 1) (c.loop-q.before + length (get_or (rows_of now) q []))) (sym e.row) next);
-      rows = ap (map points_in) e.row ∙ map-set_same points_in (rows_of now) q (get_or (rows_of c.forget_but_in.new.blocks) q []) [] e.points ∙ c.loop-q.invariant.rows;
+      swept = subst (λ b. AreSwept c.args.spared (rows_of old) (rows_of (slice_set now q new)) (q + 1) (c.loop-q.before + b)) (sym c.count_in-count.ensures)
+          (subst (λ r. AreSwept c.args.spared (rows_of old) r (q + 1) (c.loop-q.before + length (get_or (rows_of now) q []))) (sym (rows-set now q new)) next);
+      rows = ap (map points_in) (rows-set now q new) ∙ map-set_same points_in (rows_of now) q new.pieces.items [] points ∙ c.loop-q.invariant.rows;
     }
 
 pub returns-clause-texts : goal.returns-clause-texts
