@@ -1,12 +1,12 @@
 //! A stretch of paragraphs is made anew.
 
-ghost use Rattle.std.specs.Prelude.{◌≡◌, ◌+◌, ◌-◌, ◌<◌, ◌≤◌, ◌++◌, ◌==◌, ℕ, List, [], ◌∷◌, length, map as each, take, drop, string_bytes, IfOk, IfSome, OnOk, OnErr, vec_len, if◌then◌else◌};
+ghost use Rattle.std.specs.Prelude.{◌≡◌, ◌+◌, ◌-◌, ◌<◌, ◌≤◌, ◌++◌, ◌==◌, ℕ, List, length, map as each, take, drop, string_bytes, IfOk, IfSome, OnOk, OnErr, if◌then◌else◌};
 ghost use Rattle.std.specs.List.{concat};
 ghost use Rattle.paragraphs.specs.Text.{code_points};
 ghost use Rattle.paragraphs.specs.Paragraphs.{paragraphs};
 ghost use Rattle.text_buffer.specs.Buffers.{bytes_in, IsSplit};
 ghost use Rattle.text_buffer.specs.Edits.{anew};
-ghost use Rattle.text_buffer.specs.Pieces.{points_in, seen};
+ghost use Rattle.text_buffer.specs.Pieces.{seen};
 ghost use Rattle.text_buffer.specs.Blocks.{rows_of, pieces_in, texts_in, seen_in};
 ghost use Rattle.text_buffer.specs.Places.{IsBlockOf};
 ghost use Rattle.text_buffer.specs.Stretches.{IsRemade, IsOne, text_with};

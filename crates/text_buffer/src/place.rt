@@ -1,10 +1,10 @@
 //! A place in its paragraph.
 
-ghost use Rattle.std.specs.Prelude.{◌≡◌, ◌+◌, ◌<◌, ◌≤◌, [], length, get_or};
+ghost use Rattle.std.specs.Prelude.{◌≡◌, ◌≤◌, [], length, get_or};
 ghost use Rattle.std.specs.List.{concat};
 ghost use Rattle.paragraphs.specs.Text.{code_points};
 ghost use Rattle.text_buffer.specs.Buffers.{Fits};
-ghost use Rattle.text_buffer.specs.Blocks.{rows_of, texts_in};
+ghost use Rattle.text_buffer.specs.Blocks.{texts_in};
 ghost use Rattle.text_buffer.specs.Places.{IsInFront, IsBlockOf, IsParted};
 
 use crate::block::Block;

@@ -1,5 +1,5 @@
 -- One paragraph more is done.
-use Rattle.std.proofs.Common.{◌≤◌, length, get_or, refl, sym, ap, ◌∙◌, None, cond, arith}
+use Rattle.std.proofs.Common.{◌≤◌, length, refl, sym, ap, ◌∙◌, arith}
 use Rattle.std.proofs.lemmas.List.{take_all}
 use Rattle.text_buffer.specs.Pieces.{points_in, kept_of}
 use Rattle.text_buffer.specs.Forgetting.{left_of}

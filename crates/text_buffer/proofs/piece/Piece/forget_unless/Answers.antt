@@ -1,6 +1,6 @@
 -- Where nothing is kept nothing goes.
-use Rattle.std.proofs.Common.{◌≡◌, Bool, true, false, cond, Option, None, Some, refl, sym, ap, ◌∙◌}
-use Rattle.std.specs.Prelude.{is_some, not}
+use Rattle.std.proofs.Common.{◌≡◌, Bool, true, false, cond, Option, None, Some, refl, sym, ◌∙◌}
+use Rattle.std.specs.Prelude.{is_some}
 use Rattle.text_buffer.specs.Forgetting.{stays}
 use Rattle.text_buffer.proofs.piece.Piece.forget_unless.Goals as goal
 
