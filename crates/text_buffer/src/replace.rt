@@ -105,17 +105,9 @@ fn join_sparse<K: Drop>(blocks: &mut Vec<Block<K>>, from: usize, to: usize)
     ensures front { take from (rows_of blocks.new.items) ≡ take from (rows_of blocks.old.items) }
 {
     for q in (from..to).rev() {
-        join_if_sparse(blocks, q);
-    }
-}
-
-fn join_if_sparse<K: Drop>(blocks: &mut Vec<Block<K>>, q: usize)
-    requires { bytes_in (concat (texts_in blocks.old.items)) ≤ 9_000_000 }
-    ensures kept { pieces_in blocks.new.items ≡ pieces_in blocks.old.items }
-    ensures front { take q (rows_of blocks.new.items) ≡ take q (rows_of blocks.old.items) }
-{
-    if is_sparse(blocks, q) {
-        join_at(blocks, q);
+        if is_sparse(blocks, q) {
+            join_at(blocks, q);
+        }
     }
 }
 
