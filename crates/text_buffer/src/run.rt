@@ -1,7 +1,6 @@
 //! Runs of changes that are one edit.
 
 ghost use Rattle.std.specs.Prelude.{◌≡◌, ◌<◌, ◌≤◌, ◌+◌, ◌-◌, ◌^◌, ◌++◌, ℕ, List, [], ◌∷◌, true, false, None, length, take, string_bytes, IfOk, OnOk, IfSome};
-ghost use Rattle.bg_types.specs.declared.change.Change.TheVariants.{Put, Cut};
 ghost use Rattle.bg_types.specs.Edit.{IsInRange, changed};
 ghost use Rattle.paragraphs.specs.Text.{code_points};
 ghost use Rattle.text_buffer.specs.Edits.{AreInRange, cuts_at, puts_at};
@@ -63,9 +62,9 @@ fn puts_from(changes: &[Change], place: usize, text: &mut String) -> Result<usiz
     ensures puts { IfOk result (λ count. ArePut (take count changes.now) place (code_points (string_bytes text.old)) (code_points (string_bytes text.new))) }
 {
     for (count, change) in changes.iter().enumerate() {
-        match put_at(change, place + count) {
-            Some(ch) => add(text, ch)?,
-            None => return Ok(count),
+        match *change {
+            Change::Put { place: at, ch } if at == place + count => add(text, ch)?,
+            _ => return Ok(count),
         }
     }
     Ok(changes.len())
@@ -79,39 +78,18 @@ fn add(text: &mut String, ch: char) -> Result<(), Memory>
     Ok(())
 }
 
-/// The character that a change puts at a place.
-#[inline]
-fn put_at(change: &Change, place: usize) -> Option<char>
-    ensures { IfSome result (λ ch. change.now ≡ Put place ch) }
-{
-    match *change {
-        Change::Put { place: at, ch } if at == place => Some(ch),
-        _ => None,
-    }
-}
-
 /// How many changes at the front cut at a place.
 fn cuts_from(changes: &[Change], place: usize) -> usize
     ensures within { result ≤ length changes.now }
     ensures cuts { take result changes.now ≡ cuts_at place result }
 {
     for (count, change) in changes.iter().enumerate() {
-        if !is_cut_at(change, place) {
-            return count;
+        match *change {
+            Change::Cut { place: at } if at == place => {}
+            _ => return count,
         }
     }
     changes.len()
-}
-
-/// Whether a change cuts at a place.
-#[inline]
-fn is_cut_at(change: &Change, place: usize) -> bool
-    ensures { result ≡ true → change.now ≡ Cut place }
-{
-    match *change {
-        Change::Cut { place: at } => at == place,
-        Change::Put { .. } => false,
-    }
 }
 
 /// Whether each change is in range when its turn comes, of a text of so many code points.

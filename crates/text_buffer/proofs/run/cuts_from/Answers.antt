@@ -9,7 +9,7 @@ pub loop-count-preserved : goal.loop-count-preserved
 loop-count-preserved c =
     let i = c.loop-count.count in
     take_more c.args.changes.now i _ (omega (arith, c.loop-count-test.true, c.loop-count.auto.count-end))
-    ∙ ap₂ (λ t x. t ++ x ∷ []) c.loop-count.invariant (c.is_cut_at.ensures c.if-not-is_cut_at.false) ∙ replicate_more i (Cut c.args.place)
+    ∙ ap₂ (λ t x. t ++ x ∷ []) c.loop-count.invariant (c.in-Cut.is ∙ ap Cut c.if-at-place.true) ∙ replicate_more i (Cut c.args.place)
 
 pub returns-clause-cuts : goal.returns-clause-cuts
 returns-clause-cuts c =

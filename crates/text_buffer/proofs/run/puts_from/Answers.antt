@@ -1,8 +1,9 @@
 -- One change more puts a character behind them.
-use Rattle.std.proofs.Common.{[], length, refl, sym, subst, ◌∙◌, arith}
+use Rattle.std.proofs.Common.{[], length, refl, sym, ap, subst, ◌∙◌, arith}
 use Rattle.std.proofs.lemmas.List.{append-nil, take_all}
 use Rattle.std.specs.Prelude.{string_bytes}
 use Rattle.paragraphs.specs.Text.{code_points}
+use Rattle.bg_types.specs.declared.change.Change.TheVariants.{Put}
 use Rattle.text_buffer.specs.Runs.{ArePut}
 use Rattle.text_buffer.proofs.Runs.{put-more}
 use Rattle.text_buffer.proofs.run.puts_from.Goals as goal
@@ -12,8 +13,8 @@ loop-count-init c = record { points = []; puts = refl; text = sym (append-nil (c
 
 pub loop-count-preserved : goal.loop-count-preserved
 loop-count-preserved c =
-    put-more c.args.changes.now c.loop-count.count c.args.place _ _ _ _ c.in-Some.ch (omega (arith, c.loop-count-test.true, c.loop-count.auto.count-end)) c.loop-count.invariant c.in-Some.ensures
-    c.in_ok-add-in-Some.ensures
+    put-more c.args.changes.now c.loop-count.count c.args.place _ _ _ _ c.in-Put.ch (omega (arith, c.loop-count-test.true, c.loop-count.auto.count-end)) c.loop-count.invariant
+    (c.in-Put.is ∙ ap (λ p. Put p c.in-Put.ch) c.if-at-place.true) c.in_ok-add-in-Put.ensures
 
 pub returns-clause-puts : goal.returns-clause-puts
 returns-clause-puts c =
