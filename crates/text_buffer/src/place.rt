@@ -4,12 +4,14 @@ ghost use Rattle.std.specs.Prelude.{◌≡◌, ◌≤◌, [], length, get_or};
 ghost use Rattle.std.specs.List.{concat};
 ghost use Rattle.paragraphs.specs.Text.{code_points};
 ghost use Rattle.text_buffer.specs.Buffers.{Fits};
+ghost use Rattle.text_buffer.specs.Pieces.{points_of};
 ghost use Rattle.text_buffer.specs.Blocks.{texts_in};
 ghost use Rattle.text_buffer.specs.Places.{IsInFront, IsBlockOf, IsParted};
 
 use crate::block::Block;
 use crate::find::{Before, spot_at};
 use crate::parted::parted;
+use crate::piece::Piece;
 
 /// A place: its block, its paragraph, how many bytes of the text stand before it, and how many code points and what of the
 /// paragraph before it and behind it.
@@ -37,13 +39,14 @@ pub fn place_at<'a, K>(blocks: &'a [Block<K>], start: Before, place: usize) -> P
     ensures parted { IsParted (texts_in blocks.now) place result.number result.bytes result.front.now result.back.now }
 {
     let (block, spot) = spot_at(blocks, start, place);
-    let (front, back) = parted(text_at(blocks, block, spot.number), spot.offset);
+    let piece = piece_of(blocks, block, spot.number);
+    let (front, back) = parted(piece.text.as_str(), spot.offset);
     Place {
         block,
         number: spot.number,
         bytes: spot.bytes + front.len(),
         offset: spot.offset,
-        rest: places_at(blocks, block, spot.number) - spot.offset,
+        rest: piece.places - spot.offset,
         front,
         back,
     }
@@ -71,20 +74,10 @@ pub fn place_behind<'a, K>(
     place_at(blocks, first.block, to)
 }
 
-/// The text of paragraph `number`, of this block.
-pub fn text_at<K>(blocks: &[Block<K>], before: Before, number: usize) -> &str
+/// Paragraph `number`, of this block, as it is stored.
+pub fn piece_of<K>(blocks: &[Block<K>], before: Before, number: usize) -> &Piece<K>
     requires { IsBlockOf blocks.now before number }
-    ensures { code_points result.now ≡ get_or (texts_in blocks.now) number [] }
+    ensures { points_of result.now ≡ get_or (texts_in blocks.now) number [] }
 {
-    blocks[before.block].pieces[number - before.paragraphs]
-        .text
-        .as_str()
-}
-
-/// How many code points paragraph `number` has, of this block.
-fn places_at<K>(blocks: &[Block<K>], before: Before, number: usize) -> usize
-    requires { IsBlockOf blocks.now before number }
-    ensures { result ≡ length (get_or (texts_in blocks.now) number []) }
-{
-    blocks[before.block].pieces[number - before.paragraphs].places
+    &blocks[before.block].pieces[number - before.paragraphs]
 }

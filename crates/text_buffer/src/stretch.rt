@@ -16,7 +16,7 @@ use crate::block::Block;
 use crate::fault::BufferFault;
 use crate::find::{Before, back_to_place, block_in_front};
 use crate::parted::{joined_text, text_between};
-use crate::place::{Place, place_at, place_behind, text_at};
+use crate::place::{Place, piece_of, place_at, place_behind};
 use bg_types::Memory;
 use paragraphs::meets_at_cut;
 use std::alloc::Global;
@@ -163,7 +163,7 @@ fn stretch_at<K>(
         });
     }
     let in_front = block_in_front(blocks, first.block, first.number);
-    let before = text_at(blocks, in_front, first.number - 1);
+    let before = piece_of(blocks, in_front, first.number - 1).text.as_str();
     if !text.is_empty() && meets_at_cut(tables, before, &text) {
         return Ok(Stretch {
             block: first.block,

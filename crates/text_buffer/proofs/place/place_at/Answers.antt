@@ -16,31 +16,28 @@ overflow_add-result g c =
     let at = c.spot_at.ensures.spot in
     let n = c.spot_at.result.1.number in
     let o = c.spot_at.result.1.offset in
-    let p = code_points c.text_at.result.now in
+    let p = code_points c.as_str.result.now in
     let f = code_points c.parted.result.0.now in
     let b = code_points c.parted.result.1.now in
-    let own : f ++ b ≡ get_or kept n [] = ap₂ (λ x y. x ++ y) c.parted.ensures.front c.parted.ensures.back ∙ take-append-drop o p ∙ c.text_at.ensures in
-    let size = ap length c.parted.ensures.front ∙ length-take-le o p (omega (arith, at.within, ap length c.text_at.ensures)) in
+    let own : f ++ b ≡ get_or kept n [] = ap₂ (λ x y. x ++ y) c.parted.ensures.front c.parted.ensures.back ∙ take-append-drop o p ∙ (ap code_points c.as_str.ensures.value ∙ c.piece_of-piece.ensures) in
+    let size = ap length c.parted.ensures.front ∙ length-take-le o p (omega (arith, at.within, ap length (ap code_points c.as_str.ensures.value ∙ c.piece_of-piece.ensures))) in
     let stands : length (concat (take n kept)) + length f ≡ c.args.place = omega (arith, size, at.place_is) in
     let front = ap bytes_in (text-front kept n c.args.place f b at.there own stands) ∙ bytes_in-append (concat (take n kept)) f in
     let same = ap length (encodes-chars c.parted.result.0.now c.parted.ensures.first) in
     omega (arith, front, same, at.bytes, bytes-some (concat kept) c.args.place, c.requires.fits.bytes)
 
-pub text_at-requires : goal.text_at-requires
-text_at-requires g c = record { stands = c.spot_at.ensures.stands; reached = c.spot_at.ensures.first; here = c.spot_at.ensures.here }
+pub piece_of-piece-requires : goal.piece_of-piece-requires
+piece_of-piece-requires g c = record { stands = c.spot_at.ensures.stands; reached = c.spot_at.ensures.first; here = c.spot_at.ensures.here }
 
 pub returns-clause-block : goal.returns-clause-block
 returns-clause-block g c = record { stands = c.spot_at.ensures.stands; reached = c.spot_at.ensures.first; here = c.spot_at.ensures.here }
 
-pub places_at-requires : goal.places_at-requires
-places_at-requires g c = record { stands = c.spot_at.ensures.stands; reached = c.spot_at.ensures.first; here = c.spot_at.ensures.here }
-
 pub overflow_sub-result : goal.overflow_sub-result
-overflow_sub-result g c = omega (arith, c.places_at.ensures, c.spot_at.ensures.spot.within)
+overflow_sub-result g c = omega (arith, c.piece_of-piece.result.now.counted, ap length c.piece_of-piece.ensures, c.spot_at.ensures.spot.within)
 
 pub returns-clause-rest : goal.returns-clause-rest
 returns-clause-rest g c =
-    omega (arith, c.places_at.ensures, ap length c.text_at.ensures, ap length c.parted.ensures.back, length-drop c.spot_at.result.1.offset (code_points c.text_at.result.now))
+    omega (arith, c.piece_of-piece.result.now.counted, ap length c.piece_of-piece.ensures, ap length (ap code_points c.as_str.ensures.value ∙ c.piece_of-piece.ensures), ap length c.parted.ensures.back, length-drop c.spot_at.result.1.offset (code_points c.as_str.result.now))
 
 pub returns-clause-parted : goal.returns-clause-parted
 returns-clause-parted g c =
@@ -48,11 +45,11 @@ returns-clause-parted g c =
     let at = c.spot_at.ensures.spot in
     let n = c.spot_at.result.1.number in
     let o = c.spot_at.result.1.offset in
-    let p = code_points c.text_at.result.now in
+    let p = code_points c.as_str.result.now in
     let f = code_points c.parted.result.0.now in
     let b = code_points c.parted.result.1.now in
-    let own : f ++ b ≡ get_or kept n [] = ap₂ (λ x y. x ++ y) c.parted.ensures.front c.parted.ensures.back ∙ take-append-drop o p ∙ c.text_at.ensures in
-    let size = ap length c.parted.ensures.front ∙ length-take-le o p (omega (arith, at.within, ap length c.text_at.ensures)) in
+    let own : f ++ b ≡ get_or kept n [] = ap₂ (λ x y. x ++ y) c.parted.ensures.front c.parted.ensures.back ∙ take-append-drop o p ∙ (ap code_points c.as_str.ensures.value ∙ c.piece_of-piece.ensures) in
+    let size = ap length c.parted.ensures.front ∙ length-take-le o p (omega (arith, at.within, ap length (ap code_points c.as_str.ensures.value ∙ c.piece_of-piece.ensures))) in
     let stands : length (concat (take n kept)) + length f ≡ c.args.place = omega (arith, size, at.place_is) in
     let front = ap bytes_in (text-front kept n c.args.place f b at.there own stands) ∙ bytes_in-append (concat (take n kept)) f in
     let same = ap length (encodes-chars c.parted.result.0.now c.parted.ensures.first) in

@@ -38,7 +38,7 @@ returns-then-meets_at_cut-clause-begun g c =
     let next : i + 1 ≡ c.args.first.now.number = omega (arith, c.if-first-eq0.false) in
     let t = code_points (string_bytes c.args.text) in
     let some = some-points c.args.text (sym c.if-not-is_empty.ensures) in
-    let met = sym (ap₂ (meets_at_cut (bidi_of tables)) c.text_at-before.ensures (ap code_points c.deref.ensures)) ∙ sym c.if-meets_at_cut.ensures in
+    let met = sym (ap₂ (meets_at_cut (bidi_of tables)) (ap code_points c.as_str-before.ensures.value ∙ c.piece_of.ensures) (ap code_points c.deref.ensures)) ∙ sym c.if-meets_at_cut.ensures in
     subst (λ n. IsBegun tables kept n c.args.to t) next (begun-alone tables kept is i c.args.to t (omega (arith, next, c.requires.order)) c.requires.within some met)
 
 pub returns-clause-begun : goal.returns-clause-begun
@@ -49,8 +49,8 @@ returns-clause-begun g c =
     let i = c.args.first.now.number - 1 in
     let next : i + 1 ≡ c.args.first.now.number = omega (arith, c.if-first-eq0.false) in
     let t = code_points (string_bytes c.args.text) in
-    let whole = ap code_points c.in_ok-joined_text.ensures ∙ chars-append c.text_at-before.result.now c.deref-2.result.now c.text_at-before.utf8
-    ∙ ap₂ (λ x y. x ++ y) c.text_at-before.ensures (ap code_points c.deref-2.ensures) in
+    let whole = ap code_points c.in_ok-joined_text.ensures ∙ chars-append c.as_str-before.result.now c.deref-2.result.now c.as_str-before.utf8
+    ∙ ap₂ (λ x y. x ++ y) (ap code_points c.as_str-before.ensures.value ∙ c.piece_of.ensures) (ap code_points c.deref-2.ensures) in
     subst (λ x. IsBegun tables kept i c.args.to x) (sym whole) (begun-joined tables kept is i c.args.to t (omega (arith, next, c.requires.order)) c.requires.within)
 
 pub returns-clause-text : goal.returns-clause-text
@@ -59,8 +59,8 @@ returns-clause-text g c =
     let i = c.args.first.now.number - 1 in
     let next : i + 1 ≡ c.args.first.now.number = omega (arith, c.if-first-eq0.false) in
     let t = code_points (string_bytes c.args.text) in
-    let whole = ap code_points c.in_ok-joined_text.ensures ∙ chars-append c.text_at-before.result.now c.deref-2.result.now c.text_at-before.utf8
-    ∙ ap₂ (λ x y. x ++ y) c.text_at-before.ensures (ap code_points c.deref-2.ensures) in
+    let whole = ap code_points c.in_ok-joined_text.ensures ∙ chars-append c.as_str-before.result.now c.deref-2.result.now c.as_str-before.utf8
+    ∙ ap₂ (λ x y. x ++ y) (ap code_points c.as_str-before.ensures.value ∙ c.piece_of.ensures) (ap code_points c.deref-2.ensures) in
     ap (text_with kept i c.args.to) whole ∙ text-joined_front kept i c.args.to t (omega (arith, next, c.requires.order, c.requires.within)) ∙ ap (λ n. text_with kept n c.args.to t) next
 
 pub returns-clause-from : goal.returns-clause-from
@@ -68,5 +68,5 @@ returns-clause-from g c = inr (omega (arith, c.if-first-eq0.false))
 
 pub returns-clause-ends : goal.returns-clause-ends
 returns-clause-ends g c =
-    let whole = ap code_points c.in_ok-joined_text.ensures ∙ chars-append c.text_at-before.result.now c.deref-2.result.now c.text_at-before.utf8 in
-    (code_points c.text_at-before.result.now, whole ∙ ap (λ t. code_points c.text_at-before.result.now ++ t) (ap code_points c.deref-2.ensures))
+    let whole = ap code_points c.in_ok-joined_text.ensures ∙ chars-append c.as_str-before.result.now c.deref-2.result.now c.as_str-before.utf8 in
+    (code_points c.as_str-before.result.now, whole ∙ ap (λ t. code_points c.as_str-before.result.now ++ t) (ap code_points c.deref-2.ensures))
