@@ -39,25 +39,16 @@ fn of_pieces<K: Weighed>(pieces: &[Piece<K>]) -> usize
     weight
 }
 
-/// What is kept of a block, which is passed where nothing is.
-fn of_block<K: Weighed>(block: &Block<K>) -> usize
-    requires few { weight_in K.weight block.now.pieces.items ≤ 2_000_000_000_000_000 }
-    ensures { result ≡ weight_in K.weight block.now.pieces.items }
-{
-    if block.kept == 0 {
-        return 0;
-    }
-    of_pieces(&block.pieces)
-}
-
-/// What is kept of all blocks.
+/// What is kept of all blocks. One of which nothing is kept is passed.
 pub fn of_blocks<K: Weighed>(blocks: &[Block<K>]) -> usize
     requires few { weight_in K.weight (pieces_in blocks.now) ≤ 2_000_000_000_000_000 }
     ensures { result ≡ weight_in K.weight (pieces_in blocks.now) }
 {
     let mut weight = 0;
     for block in blocks {
-        weight += of_block(block);
+        if block.kept > 0 {
+            weight += of_pieces(&block.pieces);
+        }
     }
     weight
 }
