@@ -30,10 +30,6 @@ pub changed-all : (changes : List Change) (old new : List ℕ) → IsEdit old ch
 changed-all [] old new e = (tt, e)
 changed-all (c ∷ cs) old new e = let later = changed-all cs (changed old c) new e.1 in ((e.0, later.0), later.1)
 
-pub all-changed : (changes : List Change) (old : List ℕ) → AreInRange old changes → IsEdit old changes (all_changed old changes)
-all-changed [] old r = refl
-all-changed (c ∷ cs) old r = (r.0, all-changed cs (changed old c) r.1)
-
 -- ---- a run
 
 pub changed-cuts : (n p : ℕ) (text : List ℕ) → p ≤ length text → AreInRange text (cuts_at p n) → (p + n ≤ length text) × (all_changed text (cuts_at p n) ≡ take p text ++ drop (p + n) text)
