@@ -16,11 +16,6 @@ characters_more b long =
     let fewer : length b / 4 ≡ suc (length (drop 4 b) / 4) = omega (arith, length-drop 4 b, long) in
     ap (λ (n : ℕ). characters_at n b) fewer
 
-pub characters_none : (b : List ℕ) → length b < 4 → characters_in b ≡ []
-characters_none b short =
-    let none : length b / 4 ≡ 0 = omega (arith, short) in
-    ap (λ (n : ℕ). characters_at n b) none
-
 pub length-characters_at : (n : ℕ) (b : List ℕ) → length (characters_at n b) ≡ n
 length-characters_at zero b = refl
 length-characters_at (suc n) b = omega (arith, length-characters_at n (drop 4 b))

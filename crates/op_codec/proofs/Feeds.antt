@@ -94,17 +94,6 @@ sound_kept_so (Some at) ops [] cut missing n cause fault =
 sound_kept_so (Some at) ops (b ∷ kept) cut missing n cause fault =
     (one_fault (spelling_in at.version ops ++ b ∷ kept) n (at.frames + 1) cause Truncated fault (fault_behind at ops b kept Truncated cut.0 cut.1 missing)).1
 
-pub kept_whole : (position : Option Position) (ops : List OpView) (kept : List ℕ) → IsCut position ops kept → IsWhole (bytes_of position ops kept) ops
-kept_whole None ops kept cut = inl (cut.0, cut.1)
-kept_whole (Some at) ops kept cut = inr (record {
-  version = at.version;
-  rest = kept;
-  cause = cut.2.0;
-  spelled = refl;
-  well_formed = cut.0;
-  no_frame = shown_behind at ops kept cut.2.0 cut.1 cut.2.1;
-})
-
 -- there are no more frames than operations
 pub few_frames : (at : Position) (ops : List OpView) → IsBehind at ops → at.frames ≤ length ops
 few_frames at ops is = omega (arith, is.frames, length-frames_of (most_insertions at.version) ops)
@@ -189,15 +178,6 @@ start_behind version at ops none is = subst (λ (p : Position). IsBehind p ops) 
   tip = ap (λ (xs : List OpView). tip_of (most_insertions version) xs) (sym none);
 })
 
-pub header_right_so : (version : Version) (bytes rest : List ℕ) → bytes ≡ header version ++ rest → header_cause bytes ≡ None
-header_right_so version bytes rest e = ap header_cause e ∙ header_cause-header version rest
-
-pub spelled_header : (version : Version) (ops : List OpView) (kept piece : List ℕ) → header_cause ((spelling_in version ops ++ kept) ++ piece) ≡ None
-spelled_header version ops kept piece = header_right_so version ((spelling_in version ops ++ kept) ++ piece) ((flat_map frame_bytes (frames_of (most_insertions version) ops) ++ kept) ++ piece) refl
-
-pub none_well : (ops : List OpView) → ops ≡ [] → AllByRecursion IsWellFormed ops
-none_well ops none = subst (AllByRecursion IsWellFormed) (sym none) tt
-
 -- ---- the answer
 
 pub faulty_before : (position : Option Position) (ops : List OpView) (kept piece : List ℕ) (fault : CodecFault) → IsCut position ops kept → TellsKept (kept_fault position kept) fault
@@ -226,16 +206,6 @@ pub answered : (old piece : List ℕ) (position : Option Position) (ops : List O
     → OnOk r (IsMissing (kept_fault position kept)) → IfErr r (TellsKept (kept_fault position kept)) → IsFeedOutcome old piece (bytes_of position ops kept) r
 answered old piece position ops kept (Ok done) sound h ok err = taken_sound old piece position ops kept h ok
 answered old piece position ops kept (Err fault) sound h ok err = taken_faulty old piece position ops kept fault sound h err
-
--- ---- outcomes
-
-pub on_ok : {E : Type 0} (r : Result (Unit {0}) E) (P Q : Type 0) → (P → Q) → OnOk r P → OnOk r Q
-on_ok (Ok done) P Q f h = f h
-on_ok (Err e) P Q f h = h
-
-pub on_err : {E : Type 0} (r : Result (Unit {0}) E) (P Q : Type 0) → (P → Q) → OnErr r P → OnErr r Q
-on_err (Ok done) P Q f h = h
-on_err (Err e) P Q f h = f h
 
 -- ---- a file that is fed whole
 

@@ -29,9 +29,6 @@ pub record IsGathered (first : OpView) (ops : List OpView) (i : ℕ) (last : Opt
   pub frames : frames_of 1024 (first ∷ ops) ≡ gathered 1024 (frame_of first (take i ops)) (drop i ops)
   pub well_formed : AllByRecursion IsWellFormed (take i ops)
 
-pub gathered_first : (first : OpView) (ops : List OpView) (last : Option Identifier) → IsWellFormed first → last ≡ last_id first [] → IsGathered first ops 0 last
-gathered_first first ops last ok is = record { is_frame = alone_is 1024 first (omega arith) ok; insertions = refl; last_is = is; frames = refl; well_formed = tt }
-
 -- ---- one more
 
 pub no_erasure : (before : Option Identifier) (t : Identifier) → joins before (Erase t) ≡ true → ⊥
@@ -93,34 +90,3 @@ gathered_one first ops i last op next g inside is few joined ok next_is =
           ∙ ap (λ (h : Frame). gathered 1024 h (drop (i + 1) ops)) same;
       well_formed = subst (AllByRecursion IsWellFormed) (sym more) (well-push done op g.well_formed ok);
     }
-
--- ---- the end
-
--- at 1,024 insertions, or where the next operation doesn't join
-tip_closed : (full : Bool) (last : Option Identifier) (op : OpView) → (full ≡ false) ⊎ (joins last op ≡ false) → joins (cond full last None) op ≡ false
-tip_closed false last op e = refl
-tip_closed true last op (inl e) = absurd cc
-tip_closed true last op (inr e) = e
-
-pub gathered_stop : (first : OpView) (ops : List OpView) (i : ℕ) (last : Option Identifier) (op : OpView) → IsGathered first ops i last → i < length ops → op ≡ get_or ops i op → (i ≡ 1023) ⊎ (joins last op ≡ false)
-    → frames_of 1024 (first ∷ ops) ≡ frame_of first (take i ops) ∷ frames_of 1024 (drop i ops)
-gathered_stop first ops i last op g inside is stops =
-    let done = take i ops in
-    let f = frame_of first done in
-    let chars = inserted_characters done in
-    let rest : drop i ops ≡ op ∷ drop (i + 1) ops = drop_more ops i op inside ∙ ap (λ (x : OpView). x ∷ drop (i + 1) ops) (sym is) in
-    let closed : (ltb (length chars + 1) 1024 ≡ false) ⊎ (joins (last_id first chars) op ≡ false) =
-    elim stops [
-      | inl full ↦ inl (le-ltb _ _ (omega (arith, g.insertions, full)))
-      | inr apart ↦ inr (ap (λ (x : Option Identifier). joins x op) (sym g.last_is) ∙ apart)
-    ] in
-    let at_tip : joins (tip 1024 f) op ≡ false = tip_closed (ltb (length chars + 1) 1024) (last_id first chars) op closed in
-    g.frames ∙ ap (λ (s : List OpView). gathered 1024 f s) rest
-    ∙ (λ j. cond (at_tip j) (gathered 1024 (grown f op) (drop (i + 1) ops)) (f ∷ gathered 1024 (alone op) (drop (i + 1) ops)))
-    ∙ ap (λ (s : List OpView). f ∷ frames_of 1024 s) (sym rest)
-
-pub gathered_all : (first : OpView) (ops : List OpView) (i : ℕ) (last : Option Identifier) → IsGathered first ops i last → length ops ≤ i
-    → frames_of 1024 (first ∷ ops) ≡ frame_of first (take i ops) ∷ frames_of 1024 (drop i ops)
-gathered_all first ops i last g past =
-    let none : drop i ops ≡ [] = drop_all i ops past in
-    g.frames ∙ ap (λ (s : List OpView). gathered 1024 (frame_of first (take i ops)) s) none ∙ ap (λ (s : List OpView). frame_of first (take i ops) ∷ frames_of 1024 s) (sym none)

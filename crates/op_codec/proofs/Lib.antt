@@ -20,4 +20,3 @@ pub mod Pieces
 pub mod Cuts
 pub mod Feeds
 pub mod Streams
-pub mod Rows

@@ -21,41 +21,7 @@ use Rattle.op_codec.specs.Frames.{MayGoOn, BeginsWith}
 use Rattle.op_codec.specs.Fault.{or_else, first_cause, identifier_at, length_cause, is_run_length, numbers_cause, run_cause, run_frame_cause, characters_in}
 use Rattle.op_codec.proofs.Bytes.{IsBytes}
 use Rattle.op_codec.proofs.Frames.{run_parts, further_count, run_spelled}
-use Rattle.op_codec.proofs.Characters.{characters_more, characters_none}
-
--- ---- the frame of a run
-
-abbrev run_of : (right : Bool) → (size fields : Option Cause) → Option Cause
-run_of right size fields = cond right (or_else size fields) (Some BadLength)
-
-pub run_wrong : (bytes : List ℕ) (size : ℕ) → size ≡ big_number 2 bytes → is_run_length size ≡ false → run_frame_cause bytes ≡ Some BadLength
-run_wrong bytes size is wrong =
-    let n = big_number 2 bytes in
-    λ i. run_of ((ap is_run_length (sym is) ∙ wrong) i) (length_cause n bytes) (run_cause (take (n - 1) (drop 3 bytes)))
-
-pub run_cut : (bytes : List ℕ) (size : ℕ) (cause : Cause) → size ≡ big_number 2 bytes → is_run_length size ≡ true → length_cause size bytes ≡ Some cause → run_frame_cause bytes ≡ Some cause
-run_cut bytes size cause is right shown =
-    let n = big_number 2 bytes in
-    λ i. run_of ((ap is_run_length (sym is) ∙ right) i) ((ap (λ (k : ℕ). length_cause k bytes) (sym is) ∙ shown) i) (run_cause (take (n - 1) (drop 3 bytes)))
-
-pub run_faulty : (bytes fields : List ℕ) (size : ℕ) (cause : Cause) → size ≡ big_number 2 bytes → is_run_length size ≡ true → length_cause size bytes ≡ None → fields ≡ take (size - 1) (drop 3 bytes) → run_cause fields ≡ Some cause
-    → run_frame_cause bytes ≡ Some cause
-run_faulty bytes fields size cause is right whole fields_are shown =
-    let fault : run_cause (take (big_number 2 bytes - 1) (drop 3 bytes)) ≡ Some cause = ap (λ (k : ℕ). run_cause (take (k - 1) (drop 3 bytes))) (sym is) ∙ ap run_cause (sym fields_are) ∙ shown in
-    λ i. run_of ((ap is_run_length (sym is) ∙ right) i) ((ap (λ (k : ℕ). length_cause k bytes) (sym is) ∙ whole) i) (fault i)
-
--- ---- a frame in each version
-
-pub begins_alone : (version : Version) (bytes : List ℕ) (f : Frame) (rest : List ℕ) → BeginsWith 1 bytes f rest → BeginsWith (most_insertions version) bytes f rest
-begins_alone One bytes f rest h = h
-begins_alone Two bytes f rest h = record {
-  spelled = h.spelled;
-  is_frame = record { first = h.is_frame.first; goes_on = h.is_frame.goes_on; scalars = h.is_frame.scalars; few = omega (arith, h.is_frame.few) };
-}
-
-pub begins_run : (version : Version) (bytes : List ℕ) (f : Frame) (rest : List ℕ) → 1 < most_insertions version → BeginsWith 1024 bytes f rest → BeginsWith (most_insertions version) bytes f rest
-begins_run One bytes f rest runs h = absurd (omega (arith, runs))
-begins_run Two bytes f rest runs h = h
+use Rattle.op_codec.proofs.Characters.{characters_more}
 
 -- ---- the operations of a run
 
@@ -73,12 +39,6 @@ scalar_first rest long all = let both = subst (AllByRecursion IsScalar) (charact
 
 pub scalars_more : (rest : List ℕ) → 4 ≤ length rest → scalar (big_number 4 rest) ≡ true → list_all scalar (characters_in rest) ≡ list_all scalar (characters_in (drop 4 rest))
 scalars_more rest long is = ap (list_all scalar) (characters_more rest long) ∙ rw is refl
-
-pub scalars_not : (rest : List ℕ) → 4 ≤ length rest → scalar (big_number 4 rest) ≡ false → list_all scalar (characters_in rest) ≡ false
-scalars_not rest long is = ap (list_all scalar) (characters_more rest long) ∙ rw is refl
-
-pub scalars_none : (rest : List ℕ) → length rest < 4 → list_all scalar (characters_in rest) ≡ true
-scalars_none rest short = ap (list_all scalar) (characters_none rest short)
 
 pub run_begins : (bytes fields rest : List ℕ) (first : OpView) (size : ℕ) → IsBytes bytes → 3 ≤ length bytes → slice_index bytes 2 ≡ 3 → big_number 2 bytes ≡ size → is_run_length size ≡ true → 2 + size ≤ length bytes
     → fields ≡ take (size - 1) (drop 3 bytes) → rest ≡ drop (2 + size) bytes → fields ≡ frame_fields first ++ drop 16 fields → IsWellFormed first → MayGoOn first (characters_in (drop 16 fields))
@@ -103,10 +63,6 @@ pub run_no_scalar : (f : List ℕ) → numbers_cause f ≡ None → (identifier_
 run_no_scalar f none few other =
     let early : ltb (2 ^ 32) ((identifier_at f).counter + length (characters_in (drop 12 f))) ≡ false = le-ltb _ _ few in
     λ i. or_else (none i) (first_cause ((early i, CounterOverflow) ∷ (not (other i), NotAScalar) ∷ []))
-
-pub run_numbers : (f : List ℕ) (cause : Cause) → numbers_cause f ≡ Some cause → run_cause f ≡ Some cause
-run_numbers f cause shown =
-    λ i. or_else (shown i) (first_cause ((ltb (2 ^ 32) ((identifier_at f).counter + length (characters_in (drop 12 f))), CounterOverflow) ∷ (not (list_all scalar (characters_in (drop 12 f))), NotAScalar) ∷ []))
 
 -- ---- what calls give
 

@@ -57,9 +57,6 @@ wrong_again (a ∷ b ∷ c ∷ d ∷ rest) more e = e
 right_again : (xs more : List ℕ) → 5 ≤ length xs → is_right (xs ++ more) ≡ is_right xs
 right_again xs more long = ap (λ (front : List ℕ). starts_with eqb magic front) (take-append-le 4 xs more (omega (arith, long)))
 
-not_magic : header_of false true true ≢ Some Truncated
-not_magic e = cc
-
 whole_header : (version : Bool) → header_of true false version ≢ Some Truncated
 whole_header true e = cc
 whole_header false e = cc

@@ -45,9 +45,6 @@ joined-same before ops new e = ap (λ (xs : List OpView). before ++ added ops xs
 pub taken_after : (at now : Position) (before old new : List OpView) (bytes rest : List ℕ) → TakesIn at now old new bytes rest → TakesIn at now before (before ++ added old new) bytes rest
 taken_after at now before old new bytes rest h = record { f = h.f; takes = h.takes; next = h.next; ops = ap (λ (xs : List OpView). before ++ xs) (added-one old new (frame_ops h.f) h.ops) }
 
-pub moves_none : (at : Position) (before ops : List OpView) (bytes : List ℕ) → AllByRecursion IsWellFormed before → IsBehind at before → MovesOn at at before (before ++ added ops ops) bytes bytes
-moves_none at before ops bytes ok is = subst (λ (xs : List OpView). MovesOn at at before xs bytes bytes) (sym (joined-none before ops)) (record { version = refl; read = refl; well_formed = ok; behind = is })
-
 -- one more frame was read
 pub moves_more : (start at next : Position) (before first ops new : List OpView) (bytes rest after : List ℕ) → take (length first) ops ≡ first → TakesIn at next ops new rest after
     → MovesOn start at before (before ++ added first ops) bytes rest → MovesOn start next before (before ++ added first new) bytes after
