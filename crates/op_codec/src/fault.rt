@@ -5,7 +5,6 @@ ghost use Rattle.op_codec.specs.declared.fault.CodecFault.TheVariants.{Memory as
 ghost use Rattle.op_codec.specs.Code.{cause_code, fault_code, frame_number};
 
 use bg_types::Memory;
-use std::alloc::{AllocError, AllocFailed};
 use std::fmt;
 use thiserror::Error;
 
@@ -93,22 +92,6 @@ impl CodecFault {
             CodecFault::Malformed { frame, .. } => Some(frame),
             CodecFault::Memory => None,
         }
-    }
-}
-
-impl From<AllocError> for CodecFault {
-    ghost from_gives = { λ _ e. e ≡ memory };
-
-    fn from(_error: AllocError) -> CodecFault {
-        CodecFault::Memory
-    }
-}
-
-impl<T: Drop> From<AllocFailed<T>> for CodecFault {
-    ghost from_gives = { λ _ e. e ≡ memory };
-
-    fn from(_error: AllocFailed<T>) -> CodecFault {
-        CodecFault::Memory
     }
 }
 
