@@ -49,22 +49,6 @@ whole_one v w xs ys x y c d p q ends ends' e =
     (ap (λ (u : Version). spelling_in u xs ++ x) (sym version) ∙ e) in
     (version, same.0, same.1)
 
-pub one_whole : (bytes : List ℕ) (a b : List OpView) → IsWhole bytes a → IsWhole bytes b → a ≡ b
-one_whole bytes a b (inl p) (inl q) = p.0 ∙ sym q.0
-one_whole bytes a b (inl p) (inr q) = absurd (spelling_right q.version bytes q.rest b p.1.0 q.spelled p.1.1)
-one_whole bytes a b (inr p) (inl q) = absurd (spelling_right p.version bytes p.rest a q.1.0 p.spelled q.1.1)
-one_whole bytes a b (inr p) (inr q) = (whole_one p.version q.version a b p.rest q.rest p.cause q.cause p.well_formed q.well_formed p.no_frame q.no_frame (sym p.spelled ∙ q.spelled)).1
-
-pub spelled_whole : (bytes : List ℕ) (ops : List OpView) → Spells bytes ops → IsWhole bytes ops
-spelled_whole bytes ops h = inr (record {
-  version = h.version;
-  rest = [];
-  cause = Truncated;
-  spelled = h.spelled.bytes ∙ sym (append-nil (spelling_in h.version ops));
-  well_formed = h.spelled.well_formed;
-  no_frame = refl;
-})
-
 pub lasting_whole : (bytes more : List ℕ) (ops : List OpView) (n : ℕ) (cause : Cause) → IsWhole bytes ops → IsFault bytes n cause → cause ≢ Truncated → IsWhole (bytes ++ more) ops
 lasting_whole bytes more ops n cause (inl p) (inl h) other = inl (p.0, (cause, settles header_cause 5 bytes more cause (header_settles bytes more) h.1 other))
 lasting_whole bytes more ops n cause (inl p) (inr h) other = absurd (spelling_right h.version bytes h.rest h.ops p.1.0 h.before p.1.1)

@@ -38,15 +38,6 @@ pub fn stable_faults()
         → IsFault bytes frame cause → cause ≢ Truncated → IsFault (bytes ++ more) frame cause }
 {}
 
-/// Bytes have one list of operations of whole frames. For a file these are all its operations, and
-/// after a lasting fault no more are added.
-pub fn whole_frames()
-    ensures one_list { (bytes : List ℕ) (a b : List OpView) → IsWhole bytes a → IsWhole bytes b → a ≡ b }
-    ensures spelled { (bytes : List ℕ) (ops : List OpView) → Spells bytes ops → IsWhole bytes ops }
-    ensures faulty { (bytes more : List ℕ) (ops : List OpView) (frame : ℕ) (cause : Cause)
-        → IsWhole bytes ops → IsLasting bytes frame cause → IsWhole (bytes ++ more) ops }
-{}
-
 /// What a feed has is what all bytes that it was fed come to, for every list of pieces: `begin` and one
 /// of `taken`, `faulty` and `refused` for each piece say so, with the answer by the first fault of all
 /// bytes so far; `ops`, `spelled` and `told` say what its operations and its end say of them.
