@@ -43,41 +43,19 @@ pub fn encode_one(op: &Op, out: &mut [u8]) -> usize
     ensures written { out.new ≡ spelling (op.now ∷ []) ++ drop (length (spelling (op.now ∷ []))) out.old }
     ensures size { result ≡ length (spelling (op.now ∷ [])) }
 {
+    out[..MAGIC.len()].copy_from_slice(&MAGIC);
+    out[MAGIC.len()] = Version::One.number();
     match op.view() {
-        OpView::Insert { id, parent, ch } => put_front(&insertion_file(id, &parent, ch), out),
-        OpView::Erase { target } => put_front(&erasure_file(target), out),
+        OpView::Insert { id, parent, ch } => {
+            let frame = insertion_frame(id, &parent, ch);
+            out[HEADER_SIZE..INSERTION_FILE_SIZE].copy_from_slice(&frame);
+            INSERTION_FILE_SIZE
+        }
+        OpView::Erase { target } => {
+            out[HEADER_SIZE..ERASURE_FILE_SIZE].copy_from_slice(&erasure_frame(target));
+            ERASURE_FILE_SIZE
+        }
     }
-}
-
-/// Writes bytes to the front of `out`, and returns how many they are.
-fn put_front(bytes: &[u8], out: &mut [u8]) -> usize
-    requires room { length bytes.now ≤ length out.old }
-    ensures written { out.new ≡ bytes.now ++ drop (length bytes.now) out.old }
-    ensures size { result ≡ length bytes.now }
-{
-    let count = bytes.len();
-    out[..count].copy_from_slice(bytes);
-    count
-}
-
-fn insertion_file(id: Id, parent: &Place, ch: char) -> [u8; INSERTION_FILE_SIZE]
-    ensures { result ≡ spelling (OpView.Insert id parent.now ch ∷ []) }
-{
-    let mut file = [0; INSERTION_FILE_SIZE];
-    file[..4].copy_from_slice(&MAGIC);
-    file[4] = Version::One.number();
-    file[HEADER_SIZE..].copy_from_slice(&insertion_frame(id, parent, ch));
-    file
-}
-
-fn erasure_file(target: Id) -> [u8; ERASURE_FILE_SIZE]
-    ensures { result ≡ spelling (OpView.Erase target ∷ []) }
-{
-    let mut file = [0; ERASURE_FILE_SIZE];
-    file[..4].copy_from_slice(&MAGIC);
-    file[4] = Version::One.number();
-    file[HEADER_SIZE..].copy_from_slice(&erasure_frame(target));
-    file
 }
 
 /// The file of the operations, in version 1 (docs/FORMATS.md). Memory is taken once.
