@@ -1,6 +1,6 @@
 -- Runs that are read, and what they stand for.
-use Rattle.std.proofs.Common.{◌≡◌, ℕ, ◌+◌, ◌-◌, ◌^◌, ◌<◌, ◌≤◌, true, false, ltb, Bool, cond, List, [], ◌∷◌, ◌++◌, length, slice_index, take, drop, Option, Some, None, refl, sym, ap, subst, ◌∙◌, append_assoc, arith}
-use Rattle.std.specs.Prelude.{not, IfSome}
+use Rattle.std.proofs.Common.{◌≡◌, ℕ, ◌+◌, ◌-◌, ◌^◌, ◌<◌, ◌≤◌, true, false, ltb, Bool, List, [], ◌∷◌, ◌++◌, length, slice_index, take, drop, Option, Some, None, refl, sym, ap, subst, ◌∙◌, append_assoc, arith}
+use Rattle.std.specs.Prelude.{not, is_some, IfSome, SomeIff}
 use Rattle.std.specs.List.{list_all, AllByRecursion}
 use Rattle.std.specs.Char.{IsScalar}
 use Rattle.std.proofs.Math.Utf8.{scalar}
@@ -12,13 +12,10 @@ use Rattle.bg_types.specs.WellFormed.{IsWellFormed}
 use Rattle.bg_types.specs.declared.op.Place.TheVariants.{After}
 use Rattle.bg_types.specs.declared.op.OpView.{OpView}
 use Rattle.bg_types.specs.declared.op.OpView.TheVariants.{Insert}
-use Rattle.op_codec.specs.declared.fault.Cause.{Cause}
-use Rattle.op_codec.specs.declared.fault.Cause.TheVariants.{BadLength, CounterOverflow, NotAScalar}
-use Rattle.op_codec.specs.declared.position.Version.{Version}
-use Rattle.op_codec.specs.declared.position.Version.TheVariants.{One, Two}
-use Rattle.op_codec.specs.Spelling.{Frame, frame_fields, next_of, followers, most_insertions}
+use Rattle.op_codec.specs.declared.fault.Cause.TheVariants.{CounterOverflow, NotAScalar}
+use Rattle.op_codec.specs.Spelling.{frame_fields, next_of, followers}
 use Rattle.op_codec.specs.Frames.{MayGoOn, BeginsWith}
-use Rattle.op_codec.specs.Fault.{or_else, first_cause, identifier_at, length_cause, is_run_length, numbers_cause, run_cause, run_frame_cause, characters_in}
+use Rattle.op_codec.specs.Fault.{or_else, first_cause, identifier_at, is_run_length, numbers_cause, run_cause, characters_in}
 use Rattle.op_codec.proofs.Bytes.{IsBytes}
 use Rattle.op_codec.proofs.Frames.{run_parts, further_count, run_spelled}
 use Rattle.op_codec.proofs.Characters.{characters_more}
@@ -39,6 +36,11 @@ scalar_first rest long all = let both = subst (AllByRecursion IsScalar) (charact
 
 pub scalars_more : (rest : List ℕ) → 4 ≤ length rest → scalar (big_number 4 rest) ≡ true → list_all scalar (characters_in rest) ≡ list_all scalar (characters_in (drop 4 rest))
 scalars_more rest long is = ap (list_all scalar) (characters_more rest long) ∙ rw is refl
+
+-- a code of which a character is made
+pub scalar_made : (o : Option ℕ) (code : ℕ) (none : Bool) → SomeIff o (IsScalar code) code → is_some o ≡ not none → none ≡ false → IsScalar code
+scalar_made (Some ch) code none made told there = made.0
+scalar_made None code none made told there = absurd (let clash : false ≡ true = told ∙ ap not there in cc)
 
 pub run_begins : (bytes fields rest : List ℕ) (first : OpView) (size : ℕ) → IsBytes bytes → 3 ≤ length bytes → slice_index bytes 2 ≡ 3 → big_number 2 bytes ≡ size → is_run_length size ≡ true → 2 + size ≤ length bytes
     → fields ≡ take (size - 1) (drop 3 bytes) → rest ≡ drop (2 + size) bytes → fields ≡ frame_fields first ++ drop 16 fields → IsWellFormed first → MayGoOn first (characters_in (drop 16 fields))

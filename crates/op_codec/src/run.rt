@@ -75,19 +75,13 @@ fn read_char(bytes: &[u8]) -> char
     char::from_u32(BigEndian::read_u32(bytes)).unwrap()
 }
 
-fn is_scalar(code: u32) -> bool
-    ensures { result ≡ scalar code }
-{
-    char::from_u32(code).is_some()
-}
-
 /// Whether the bytes, four for each, are all characters.
 fn are_scalars(bytes: &[u8]) -> bool
     ensures { result ≡ list_all scalar (characters_in bytes.now) }
 {
     let mut rest = bytes;
     while rest.len() >= CHARACTER_SIZE {
-        if !is_scalar(BigEndian::read_u32(rest)) {
+        if char::from_u32(BigEndian::read_u32(rest)).is_none() {
             return false;
         }
         rest = &rest[CHARACTER_SIZE..];
