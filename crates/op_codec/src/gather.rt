@@ -3,13 +3,13 @@
 ghost use Rattle.std.specs.Prelude.{◌≡◌, ◌≤◌, [], ◌∷◌, ◌++◌, length, take, drop, IfSome, IfNone};
 ghost use Rattle.std.specs.List.{AllByRecursion};
 ghost use Rattle.bg_types.specs.WellFormed.{IsWellFormed};
-ghost use Rattle.op_codec.specs.Spelling.{last_id, frames_of};
+ghost use Rattle.op_codec.specs.Spelling.{frames_of};
 ghost use Rattle.op_codec.specs.Frames.{IsFrame};
 ghost use Rattle.op_codec.specs.Gathering.{inserted_characters};
 
 use crate::format::MOST_FURTHER;
-use crate::run::joins;
-use bg_types::{Id, Op, OpView};
+use crate::run::{inserted, joins};
+use bg_types::Op;
 
 /// The operations of one frame, and those after it.
 #[derive(Drop)]
@@ -55,16 +55,4 @@ fn further_len(first: &Op, ops: &[Op]) -> usize
         tip = inserted(op);
     }
     ops.len()
-}
-
-/// The identifier of an insertion.
-fn inserted(op: &Op) -> Option<Id>
-    ensures id { result ≡ last_id op.now [] }
-    // What every operation is, for the caller's proof.
-    ensures well_formed { IsWellFormed op.now }
-{
-    match op.view() {
-        OpView::Insert { id, .. } => Some(id),
-        OpView::Erase { .. } => None,
-    }
 }

@@ -15,7 +15,7 @@ use crate::encode::parent_numbers;
 use crate::fault::Cause;
 use crate::fields::read_numbers;
 use crate::format::CHARACTER_SIZE;
-use crate::position::{Position, Version};
+use crate::position::Position;
 use bg_types::{Id, Memory, Op, OpView, Place};
 use byteorder::{BigEndian, ByteOrder};
 
@@ -35,6 +35,18 @@ pub fn joins(tip: &Option<Id>, op: &Op) -> bool
                 && u64::from(id.counter()) == u64::from(before.counter()) + 1
         }
         OpView::Erase { .. } => false,
+    }
+}
+
+/// The identifier of an insertion.
+pub fn inserted(op: &Op) -> Option<Id>
+    ensures id { result ≡ last_id op.now [] }
+    // What every operation is, for the caller's proof.
+    ensures well_formed { IsWellFormed op.now }
+{
+    match op.view() {
+        OpView::Insert { id, .. } => Some(id),
+        OpView::Erase { .. } => None,
     }
 }
 
@@ -107,20 +119,10 @@ pub fn push_frame(
     if further.is_empty() {
         ops.push(*first)?;
         at.frames += 1;
-        at.tip = lone_tip(at.version, first);
+        at.tip = open_tip(1, at.version.most_insertions(), inserted(first));
         return Ok(());
     }
     push_run(ops, at, first, further)
-}
-
-/// What the next operation may join after a frame of one.
-fn lone_tip(version: Version, op: &Op) -> Option<Id>
-    ensures { result ≡ tip (most_insertions version) (record { first = op.now; further = [] }) }
-{
-    match (version, op.view()) {
-        (Version::Two, OpView::Insert { id, .. }) => Some(id),
-        _ => None,
-    }
 }
 
 /// Appends the operations of a frame of any length, in one growth.
