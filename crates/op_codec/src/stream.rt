@@ -174,24 +174,6 @@ fn read_frames(
     ensures ops { take (length ops.old.items) ops.new.items ≡ ops.old.items }
     ensures kept { OnErr result (kept.new.items ≡ kept.old.items) }
 {
-    let rest = push_frames(ops, at, bytes)?;
-    keep(kept, at, rest);
-    Ok(())
-}
-
-/// Reads the whole frames at the front, and returns what follows them. It moves the position there.
-fn push_frames<'a>(
-    ops: &mut Vec<Op>,
-    at: &mut Position,
-    bytes: &'a [u8],
-) -> Result<&'a [u8], Memory>
-    requires few { at.old.frames + length bytes.now < 2 ^ 64 - 1 }
-    ensures moved { (before : List Operation) → AllByRecursion IsWellFormed before → IsBehind at.old before
-        → IfOk result (λ rest. MovesOn at.old at.new before (before ++ added ops.old.items ops.new.items) bytes.now rest.now) }
-    ensures no_frame { IfOk result (λ rest. (cause : CauseOf) × (cause_at at.new.version at.new.tip rest.now ≡ Some cause)) }
-    ensures few { IfOk result (λ rest. at.new.frames + length rest.now ≤ at.old.frames + length bytes.now) }
-    ensures grown { take (length ops.old.items) ops.new.items ≡ ops.old.items }
-{
     // One growth if each insertion is a frame of its own, and at most a few more otherwise.
     ops.reserve(bytes.len() / INSERTION_SIZE)?;
     let mut rest = bytes;
@@ -199,5 +181,6 @@ fn push_frames<'a>(
         push_frame(ops, at, &read.first, read.further)?;
         rest = read.rest;
     }
-    Ok(rest)
+    keep(kept, at, rest);
+    Ok(())
 }

@@ -1,10 +1,10 @@
--- What stays true in the loop of `push_frames`.
+-- What stays true in the loop of `read_frames`.
 use Rattle.std.proofs.Common.{◌≡◌, ◌+◌, ◌≤◌, ◌++◌, List, length, take}
 use Rattle.std.specs.List.{AllByRecursion}
 use Rattle.bg_types.specs.WellFormed.{IsWellFormed}
 use Rattle.bg_types.specs.declared.op.OpView.{OpView}
 use Rattle.op_codec.specs.Feed.{IsBehind, MovesOn, added}
-use Rattle.op_codec.proofs.stream.push_frames.Given as goal
+use Rattle.op_codec.proofs.stream.read_frames.Given as goal
 
 abbrev pub invariant-loop-read : goal.invariant-loop-read
 invariant-loop-read l = record {
