@@ -172,12 +172,6 @@ header_goes_on version now ops grown old piece rest kept none begins taken =
     let same : spelling_in version ops ++ rest ≡ old ++ piece = ap (λ (xs : List OpView). spelling_in version xs ++ rest) none ∙ sym begins in
     subst (λ (s : List ℕ). AreTaken s (Some now) grown kept) same taken
 
-pub start_behind : (version : Version) (at : Position) (ops : List OpView) → ops ≡ [] → at ≡ record { version = version; frames = 0; tip = None } → IsBehind at ops
-start_behind version at ops none is = subst (λ (p : Position). IsBehind p ops) (sym is) (record {
-  frames = ap (λ (xs : List OpView). length (frames_of (most_insertions version) xs)) (sym none);
-  tip = ap (λ (xs : List OpView). tip_of (most_insertions version) xs) (sym none);
-})
-
 -- ---- the answer
 
 pub faulty_before : (position : Option Position) (ops : List OpView) (kept piece : List ℕ) (fault : CodecFault) → IsCut position ops kept → TellsKept (kept_fault position kept) fault

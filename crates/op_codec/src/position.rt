@@ -45,18 +45,3 @@ pub struct Position {
     /// The insertion that the next one must not join: the last one, unless its frame is full.
     pub tip: Option<Id>,
 }
-
-impl Position {
-    /// The position right after the header.
-    pub fn start(version: Version) -> Position
-        ensures version { result.version ≡ version }
-        ensures frames { result.frames ≡ 0 }
-        ensures tip { result.tip ≡ None }
-    {
-        Position {
-            version,
-            frames: 0,
-            tip: None,
-        }
-    }
-}

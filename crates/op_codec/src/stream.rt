@@ -130,7 +130,11 @@ fn read_behind_header(
     let Some((version, rest)) = complete_header(kept, piece) else {
         return Ok(None);
     };
-    let mut at = Position::start(version);
+    let mut at = Position {
+        version,
+        frames: 0,
+        tip: None,
+    };
     read_frames(ops, kept, &mut at, rest)?;
     Ok(Some(at))
 }
