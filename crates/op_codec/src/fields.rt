@@ -3,7 +3,7 @@
 ghost use Rattle.std.specs.Prelude.{◌≡◌, ◌≤◌, length, drop, is_some, not, IfSome, IfOk, IfErr, Some, None, MatchResult, nat_le, false};
 ghost use Rattle.bg_types.specs.WellFormed.{IsWellFormed, MayFollow};
 ghost use Rattle.op_codec.specs.Spelling.{frame_kind, frame_fields, identifier_bytes, parent_identifier};
-ghost use Rattle.op_codec.specs.Fault.{identifier_at, has_zero, is_half_zero, numbers_cause, insertion_cause, erasure_cause};
+ghost use Rattle.op_codec.specs.Fault.{identifier_at, has_zero, is_half_zero, numbers_cause, insertion_cause};
 
 use crate::fault::Cause;
 use bg_types::{Id, Op, Place};
@@ -53,17 +53,6 @@ fn is_late(parent: &Place, id: Id) -> bool
         Place::Root => counter == 0,
         Place::After(before) => counter <= before.counter(),
     }
-}
-
-pub fn read_erasure(fields: &[u8]) -> Result<Op, Cause>
-    requires { length fields.now ≡ 6 }
-    ensures kind { IfOk result (λ op. frame_kind op ≡ 2) }
-    ensures fields { IfOk result (λ op. frame_fields op ≡ fields.now) }
-    ensures well_formed { IfOk result IsWellFormed }
-    ensures err { IfErr result (λ cause. erasure_cause fields.now ≡ Some cause) }
-{
-    let target = read_id(fields).ok_or(Cause::ZeroField)?;
-    Ok(Op::erase(target))
 }
 
 pub fn read_id(bytes: &[u8]) -> Option<Id>

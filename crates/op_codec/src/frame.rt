@@ -8,7 +8,7 @@ ghost use Rattle.op_codec.specs.Fault.{length_cause, insertion_frame_cause, eras
 ghost use Rattle.op_codec.specs.Feed.{TakesFrame};
 
 use crate::fault::Cause;
-use crate::fields::{read_erasure, read_insertion};
+use crate::fields::{read_id, read_insertion};
 use crate::format::{ERASURE, ERASURE_LENGTH, INSERTION, INSERTION_FIELDS, INSERTION_LENGTH, RUN};
 use crate::position::{Position, Version};
 use crate::run::{is_run_length, joins, read_run};
@@ -83,9 +83,9 @@ fn read_erasure_frame(bytes: &[u8]) -> Result<Read<'_>, Cause>
     ensures err { IfErr result (λ cause. erasure_frame_cause bytes.now ≡ Some cause) }
 {
     let (fields, rest) = split_frame(bytes, ERASURE_LENGTH)?;
-    let first = read_erasure(fields)?;
+    let target = read_id(fields).ok_or(Cause::ZeroField)?;
     Ok(Read {
-        first,
+        first: Op::erase(target),
         further: &[],
         rest,
     })
