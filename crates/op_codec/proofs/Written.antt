@@ -1,9 +1,11 @@
 -- Frames that are written one after the other.
-use Rattle.std.proofs.Common.{◌≡◌, ℕ, ◌+◌, ◌*◌, ◌<◌, ◌≤◌, List, [], ◌∷◌, ◌++◌, length, get_or, take, drop, sym, ap, ◌∙◌, append_assoc, arith}
+use Rattle.std.proofs.Common.{◌≡◌, ℕ, ◌+◌, ◌*◌, ◌<◌, ◌≤◌, List, [], ◌∷◌, ◌++◌, length, get_or, take, drop, slice_set, sym, ap, ◌∙◌, append_assoc, arith}
 use Rattle.std.specs.List.{flat_map}
 use Rattle.std.proofs.lemmas.List.{take_more, take-append-drop, length-append}
 use Rattle.std.proofs.lemmas.List.Concat.{flat_map-cons, flat_map-append}
 use Rattle.byteorder.specs.Endian.{big_bytes}
+use Rattle.bg_types.specs.Identifier.{Identifier}
+use Rattle.bg_types.specs.declared.op.Place.{Place}
 use Rattle.bg_types.specs.declared.op.OpView.{OpView}
 use Rattle.bg_types.specs.declared.op.OpView.TheVariants.{Insert, Erase}
 use Rattle.op_codec.specs.Spelling.{Frame, frame, frame_fields, frame_bytes, bytes_with, frames_of}
@@ -59,6 +61,11 @@ characters_pushed first out now ops i op inside is before grew =
     grew ∙ ap (λ (s : List ℕ). s ++ one) before ∙ append_assoc first done one ∙ ap (λ (s : List ℕ). first ++ s) (sym (characters_next ops i op inside is))
 
 -- ---- the frame of a run
+
+-- an insertion's frame with another length and a run's kind
+pub front_written : (front : List ℕ) (size : ℕ) (id : Identifier) (p : Place) (ch : ℕ) (op : OpView) → front ≡ big_bytes 2 size ++ drop 2 (frame (Insert id p ch)) → Insert id p ch ≡ op
+    → slice_set front 2 3 ≡ big_bytes 2 size ++ 3 ∷ frame_fields op
+front_written front size id p ch op front_is op_is = ap (λ (s : List ℕ). slice_set s 2 3) front_is ∙ ap (λ (o : OpView). big_bytes 2 size ++ 3 ∷ frame_fields o) op_is
 
 run_bytes : (first : OpView) (chars : List ℕ) (n : ℕ) → length chars ≡ n → 0 < n → (big_bytes 2 (17 + 4 * n) ++ 3 ∷ frame_fields first) ++ flat_map (big_bytes 4) chars ≡ bytes_with first chars
 run_bytes first [] n e some = absurd (omega (arith, e, some))

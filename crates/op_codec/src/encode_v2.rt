@@ -9,10 +9,10 @@ ghost use Rattle.op_codec.specs.Frames.{IsFrame};
 ghost use Rattle.op_codec.specs.Gathering.{inserted_characters};
 
 use crate::encode::{encode_op, frame_size, insertion_frame};
-use crate::format::{CHARACTER_SIZE, HEADER_SIZE, INSERTION_LENGTH, INSERTION_SIZE, MAGIC, RUN};
+use crate::format::{CHARACTER_SIZE, HEADER_SIZE, INSERTION_LENGTH, MAGIC, RUN};
 use crate::gather::gather;
 use crate::position::Version;
-use bg_types::{Id, Memory, Op, OpView, Place};
+use bg_types::{Memory, Op, OpView};
 use byteorder::{BigEndian, ByteOrder};
 use std::alloc::Global;
 
@@ -58,24 +58,16 @@ fn write_frame(first: &Op, further: &[Op], out: &mut Vec<u8>) -> Result<(), Memo
 {
     match first.view() {
         OpView::Insert { id, parent, ch } if !further.is_empty() => {
-            out.extend_from_slice(&run_front(id, &parent, ch, further.len()))?;
+            let mut front = insertion_frame(id, &parent, ch);
+            let length = INSERTION_LENGTH + 4 * further.len() as u16;
+            BigEndian::write_u16(&mut front, length);
+            front[2] = RUN;
+            out.extend_from_slice(&front)?;
             write_characters(further, out)?;
         }
         _ => encode_op(first, out)?,
     }
     Ok(())
-}
-
-/// A run's frame up to its first character, that of this insertion, which `further` others follow.
-fn run_front(id: Id, parent: &Place, ch: char, further: usize) -> [u8; INSERTION_SIZE]
-    requires { further ≤ 1023 }
-    ensures { result ≡ big_bytes 2 (17 + 4 * further) ++ 3 ∷ frame_fields (OpView.Insert id parent.now ch) }
-{
-    let mut front = insertion_frame(id, parent, ch);
-    let length = INSERTION_LENGTH + 4 * further as u16;
-    BigEndian::write_u16(&mut front, length);
-    front[2] = RUN;
-    front
 }
 
 /// Appends the characters of the insertions.
