@@ -79,17 +79,13 @@ fn write_characters(ops: &[Op], out: &mut Vec<u8>) -> Result<(), Memory>
 {
     for op in ops {
         match op.view() {
-            OpView::Insert { ch, .. } => out.extend_from_slice(&character_bytes(ch))?,
+            OpView::Insert { ch, .. } => {
+                let mut bytes = [0; CHARACTER_SIZE];
+                BigEndian::write_u32(&mut bytes, u32::from(ch));
+                out.extend_from_slice(&bytes)?;
+            }
             OpView::Erase { .. } => {}
         }
     }
     Ok(())
-}
-
-fn character_bytes(ch: char) -> [u8; CHARACTER_SIZE]
-    ensures { result ≡ big_bytes 4 ch }
-{
-    let mut bytes = [0; CHARACTER_SIZE];
-    BigEndian::write_u32(&mut bytes, u32::from(ch));
-    bytes
 }

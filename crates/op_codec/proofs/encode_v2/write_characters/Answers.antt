@@ -21,7 +21,7 @@ loop-op-preserved c =
     let grew : c.match-view.out.items ≡ l.out.items ++ bytes_of op =
     elim c.match-view.branch [
       | in-Insert+in_ok-extend_from_slice-in-Insert w ↦
-          (λ i. (w.out-is i).items) ∙ w.in_ok-extend_from_slice-in-Insert.ensures.items ∙ ap (λ (s : List ℕ). l.out.items ++ s) (w.character_bytes.ensures ∙ ap bytes_of w.in-Insert.ensures.value)
+          (λ i. (w.out-is i).items) ∙ w.in_ok-extend_from_slice-in-Insert.ensures.items ∙ ap (λ (s : List ℕ). l.out.items ++ s) (w.write_u32.ensures ∙ ap (big_bytes 4) w.from.ensures ∙ ap bytes_of w.in-Insert.ensures.value)
       | in-Erase w ↦ (λ i. (w.out-is i).items) ∙ sym (append-nil l.out.items) ∙ ap (λ (o : OpView). l.out.items ++ bytes_of o) w.in-Erase.ensures.value
     ] in
     let kept : vec_capacity c.args.out.now ≤ vec_capacity c.match-view.out =
@@ -41,7 +41,7 @@ returns-in_err-extend_from_slice-in-Insert-clause-room c =
     let op = c.op-item.result in
     let done = inserted_characters (take l.op-index c.args.ops.now) in
     let full = c.in_err-extend_from_slice-in-Insert.ensures.full in
-    let four = ap (λ (s : List ℕ). length s) c.character_bytes.ensures in
+    let four = ap (λ (s : List ℕ). length s) c.write_u32.ensures in
     let written = ap (λ (s : List ℕ). length s) l.invariant.written in
     let parts = length-append c.args.out.now.items (flat_map (big_bytes 4) done) in
     let left = characters_left c.args.ops.now l.op-index op c.loop-op-test.true c.op-item.is in
