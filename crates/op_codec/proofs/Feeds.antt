@@ -203,9 +203,12 @@ answered old piece position ops kept (Err fault) sound h ok err = taken_faulty o
 
 -- ---- a file that is fed whole
 
-pub whole_told : (bytes new : List ℕ) (fault : CodecFault) → IsFeedOutcome [] bytes new (Err fault) → TellsFault bytes fault
-whole_told bytes new (Malformed frame cause) h = (piece_faulty [] [] bytes new frame cause (all_fed [] [] refl) h).1.0
-whole_told bytes new Memory h = tt
+pub whole_fed : (bytes old new : List ℕ) → old ≡ [] → IsFeedOutcome old bytes new (Ok tt) → new ≡ bytes
+whole_fed bytes old new none h = h.0 ∙ ap (λ (s : List ℕ). s ++ bytes) none
+
+pub whole_told : (bytes old new : List ℕ) (fault : CodecFault) → old ≡ [] → IsFeedOutcome old bytes new (Err fault) → TellsFault bytes fault
+whole_told bytes old new (Malformed frame cause) none h = subst (λ (s : List ℕ). IsFault (s ++ bytes) frame cause) none (piece_faulty old old bytes new frame cause (all_fed old old refl) h).1.0
+whole_told bytes old new Memory none h = tt
 
 -- ---- where a whole frame is kept
 

@@ -27,14 +27,6 @@ pub fn decode_file(alloc: Global, bytes: &[u8]) -> Result<Vec<Op>, CodecFault>
         → MatchResult result (λ _. ⊥)
         (λ fault. (fault ≡ CodecFault.Malformed frame cause) ⊎ (fault ≡ CodecFault.Memory)) }
 {
-    decode(alloc, bytes)
-}
-
-fn decode(alloc: Global, bytes: &[u8]) -> Result<Vec<Op>, CodecFault>
-    ensures ok { IfOk result (λ ops. Spells bytes.now ops.items) }
-    ensures fault { IfErr result (TellsFault bytes.now) }
-    ensures memory { IsErrOf result CodecFault.Memory → header_cause bytes.now ≡ None }
-{
     let mut feed = Feed::new(alloc);
     match feed.feed(bytes) {
         Ok(()) => feed.finish(),
