@@ -42,22 +42,6 @@ migrated_again file migrated m = migrated_itself migrated m.ops m.to
 pub some_migration : (file : List ℕ) (ops : List OpView) → Spells file ops → (migrated : List ℕ) × IsMigration file migrated
 some_migration file ops spelled = (spelling_in Two ops, record { ops = ops; from = spelled; to = record { bytes = refl; well_formed = spelled.spelled.well_formed } })
 
--- ---- what follows for a call that answers only migrations and first faults
-
-pub spelled_migrated : (bytes : List ℕ) (ops : List OpView) (r : Result (Vec ℕ) CodecFault) → Spells bytes ops → IfOk r (λ v. IsMigration bytes v.items) → IfErr r (TellsFault bytes)
-    → MatchResult r (λ v. SpellsIn Two v.items ops) (λ fault. fault ≡ Memory)
-spelled_migrated bytes ops (Ok v) spelled ok fault = subst (λ (xs : List OpView). SpellsIn Two v.items xs) (one_list bytes ok.ops ops ok.from spelled) ok.to
-spelled_migrated bytes ops (Err Memory) spelled ok fault = refl
-spelled_migrated bytes ops (Err (Malformed frame cause)) spelled ok fault = absurd (never_both bytes ops frame cause spelled fault)
-
-pub faulty_told : (bytes : List ℕ) (frame : ℕ) (cause : Cause) (r : Result (Vec ℕ) CodecFault) → IsFault bytes frame cause → IfOk r (λ v. IsMigration bytes v.items) → IfErr r (TellsFault bytes)
-    → MatchResult r (λ _. ⊥) (λ fault. (fault ≡ Malformed frame cause) ⊎ (fault ≡ Memory))
-faulty_told bytes frame cause (Ok v) first ok fault = never_both bytes ok.ops frame cause ok.from first
-faulty_told bytes frame cause (Err Memory) first ok fault = inr refl
-faulty_told bytes frame cause (Err (Malformed m d)) first ok fault =
-    let same = one_fault bytes m frame d cause fault first in
-    inl (λ i. Malformed (same.0 i) (same.1 i))
-
 -- ---- how long version 2 is
 
 abbrev bytes_of : List Frame → ℕ

@@ -29,14 +29,6 @@ pub fn migrate(alloc: Global, bytes: &[u8]) -> Result<Vec<u8>, CodecFault>
         → MatchResult result (λ _. ⊥)
         (λ fault. (fault ≡ CodecFault.Malformed frame cause) ⊎ (fault ≡ CodecFault.Memory)) }
 {
-    write_anew(alloc, bytes)
-}
-
-fn write_anew(alloc: Global, bytes: &[u8]) -> Result<Vec<u8>, CodecFault>
-    ensures ok { IfOk result (λ migrated. IsMigration bytes.now migrated.items) }
-    ensures fault { IfErr result (TellsFault bytes.now) }
-    ensures memory { IsErrOf result CodecFault.Memory → header_cause bytes.now ≡ None }
-{
     let ops = decode_file(alloc, bytes)?;
     Ok(encode_file_v2(alloc, &ops)?)
 }
