@@ -2,7 +2,6 @@
 pub mod Parting
 pub mod Numerals
 pub mod Leading
-pub mod Shapes
 pub mod Padding
 pub mod FirstFault
 pub mod ReadLines

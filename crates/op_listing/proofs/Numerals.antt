@@ -124,28 +124,6 @@ decimal_read most word None few h long short = by_digits (is_digits 10 word) ref
       let largest = pow-le-pow_right {n = 10} (lit< tt) {i = length word} {j = 9} (omega (arith, short, few)) in
       absurd (h (all, omega (arith, small, largest)))
 
-pub decimal_wrong : (most : ℕ) (word : List ℕ) → (length word < 1) ⊎ (most < length word) → number_in 10 1 most word ≡ None
-decimal_wrong most word wrong = number_in-wrong 10 1 most word wrong
-
-pub scalar_wrong : (word : List ℕ) → (length word < 4) ⊎ (6 < length word) → scalar_in word ≡ None
-scalar_wrong word wrong = number_in-wrong 16 4 6 word wrong
-
--- ---- sites
-
-pub site_none : (n : Option ℕ) → None ≡ up_to 4_294_967_295 n → None ≡ up_to 65_535 n
-site_none None h = refl
-site_none (Some n) h = elim (cases_lt 4_294_967_295 n) [
-  | inl lt ↦ sym (up_to-above 65_535 n (omega (arith, lt)))
-  | inr le ↦ let some = up_to-some 4_294_967_295 n le in absurd cc
-]
-
-pub site_some : (n : Option ℕ) (x : ℕ) → Some x ≡ up_to 4_294_967_295 n → up_to 65_535 n ≡ up_to 65_535 (Some x)
-site_some None x h = absurd cc
-site_some (Some n) x h = elim (cases_lt 4_294_967_295 n) [
-  | inl lt ↦ let none = up_to-above 4_294_967_295 n lt in absurd cc
-  | inr le ↦ let some = up_to-some 4_294_967_295 n le in let same : n ≡ x = cc in ap (λ (m : ℕ). up_to 65_535 (Some m)) same
-]
-
 -- ---- an answer that was given
 
 pub none_given : (r : Option ℕ) (P : Type 0) (v : ℕ) → r ≡ None → ¬ P → SomeIff r P v

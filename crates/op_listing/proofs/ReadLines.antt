@@ -17,9 +17,6 @@ pub record IsReadTo (text rest : List ℕ) (number : ℕ) (ops : List OpView) : 
   pub read : AreRead line_fault text rest number done
   pub written : ops ≡ flat_map line_operations done
 
-pub nothing_read : (text : List ℕ) → IsReadTo text text 0 []
-nothing_read text = record { done = []; read = begin line_fault text; written = refl }
-
 -- one more line is read, and may write an operation
 pub one_line_read : (text rest after line : List ℕ) (number : ℕ) (ops written : List OpView) → IsReadTo text rest number ops → lines rest ≡ line ∷ lines after
     → line_fault line ≡ None → line_operations line ≡ written → IsReadTo text after (number + 1) (ops ++ written)
@@ -31,17 +28,3 @@ one_line_read text rest after line number ops written h first faultless is = rec
       flat_map-append line_operations h.done (line ∷ []) ∙ ap (λ (s : List OpView). flat_map line_operations h.done ++ s) (append-nil (line_operations line)) in
       (λ i. h.written i ++ sym is i) ∙ sym grown;
 }
-
--- a faulty line is the first one
-pub faulty_line_read : (text rest after line : List ℕ) (number : ℕ) (ops : List OpView) (fault : LineFault) → IsReadTo text rest number ops → lines rest ≡ line ∷ lines after
-    → line_fault line ≡ Some fault → IsFaultyLine text (number + 1) fault
-faulty_line_read text rest after line number ops fault h first shown = faulty line_fault text rest after line number h.done fault h.read first shown
-
--- all is read
-pub all_read : (text rest : List ℕ) (number : ℕ) (ops : List OpView) → IsReadTo text rest number ops → length rest ≡ 0 → Lists text ops
-all_read text rest number ops h none =
-    let all = end line_fault text rest number h.done h.read none in
-    record {
-      faultless = subst (AreFaultless line_fault) all h.read.faultless;
-      written = h.written ∙ ap (flat_map line_operations) all;
-    }
