@@ -28,23 +28,17 @@ fn put_words(op: &Op, line: &mut [u8]) -> usize
     ensures line { drop 42 line.old ≡ codes "\n" → drop result line.new ≡ line_of op.now }
 {
     match op.view() {
-        OpView::Insert { id, parent, ch } => put_insertion(id, &parent, ch, line),
+        OpView::Insert { id, parent, ch } => {
+            let start = put_scalar(ch, line, LONGEST_LINE - 1);
+            let start = put_parent(&parent, line, start);
+            let start = put_identifier(id, line, start);
+            put_verb(b'i', line, start)
+        }
         OpView::Erase { target } => {
             let start = put_identifier(target, line, LONGEST_LINE - 1);
             put_verb(b'e', line, start)
         }
     }
-}
-
-fn put_insertion(id: Id, parent: &Place, ch: char, line: &mut [u8]) -> usize
-    requires { length line.old ≡ 43 }
-    ensures within { result ≤ 43 }
-    ensures line { drop 42 line.old ≡ codes "\n" → drop result line.new ≡ line_of (OpView.Insert id parent.now ch) }
-{
-    let start = put_scalar(ch, line, LONGEST_LINE - 1);
-    let start = put_parent(parent, line, start);
-    let start = put_identifier(id, line, start);
-    put_verb(b'i', line, start)
 }
 
 /// Puts a verb and a space before an index.
