@@ -113,6 +113,11 @@ pub scalar_word-of_six : (n : ℕ) → 1_048_576 ≤ n → n < 16_777_216 → sc
 unfolding digits
 scalar_word-of_six n large small = ap padded (six_digits n large small)
 
+-- the last four digits, put one before the other
+pub four_put : (n : ℕ) (rest a b c d : List ℕ) → a ≡ digit_glyph true (n % 16) ∷ rest → b ≡ digit_of n 16 ∷ a → c ≡ digit_of n 256 ∷ b → d ≡ digit_of n 4096 ∷ c → d ≡ four_of n ++ rest
+four_put n rest a b c d last third second first =
+    first ∙ ap (λ (w : List ℕ). digit_of n 4096 ∷ w) (second ∙ ap (λ (w : List ℕ). digit_of n 256 ∷ w) (third ∙ ap (λ (w : List ℕ). digit_of n 16 ∷ w) last))
+
 -- ---- how many digits there are
 
 digit_step : (k fuel n : ℕ) (acc : List ℕ) (t : Bool) → eqb (n / 16) 0 ≡ t → n < 16 ^ (suc k)

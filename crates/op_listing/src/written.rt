@@ -94,7 +94,10 @@ fn put_scalar(ch: char, line: &mut [u8], end: usize) -> usize
     ensures word { drop result line.new ≡ scalar_word ch ++ drop end line.old }
 {
     let code = u32::from(ch);
-    let start = put_four(code, line, end);
+    let start = put_digit(code, line, end);
+    let start = put_digit(code / 0x10, line, start);
+    let start = put_digit(code / 0x100, line, start);
+    let start = put_digit(code / 0x1000, line, start);
     if code < 0x1_0000 {
         return start;
     }
@@ -103,20 +106,6 @@ fn put_scalar(ch: char, line: &mut [u8], end: usize) -> usize
         return start;
     }
     put_digit(code / 0x10_0000, line, start)
-}
-
-/// Puts the last four hexadecimal digits of a number before an index.
-fn put_four(code: u32, line: &mut [u8], end: usize) -> usize
-    requires { (4 ≤ end) × (end ≤ length line.old) }
-    ensures start { result + 4 ≡ end }
-    ensures digits { drop result line.new
-        ≡ digit_glyph true (code / 4096 % 16) ∷ digit_glyph true (code / 256 % 16)
-        ∷ digit_glyph true (code / 16 % 16) ∷ digit_glyph true (code % 16) ∷ drop end line.old }
-{
-    let start = put_digit(code, line, end);
-    let start = put_digit(code / 0x10, line, start);
-    let start = put_digit(code / 0x100, line, start);
-    put_digit(code / 0x1000, line, start)
 }
 
 /// Puts the last hexadecimal digit of a number before an index.
