@@ -92,7 +92,15 @@ fn leading_scalar(bytes: &[u8]) -> Option<(u32, &[u8])>
     requires { 7 ≤ length bytes.now }
     ensures { IfSome result (λ found. TakesField (λ word. scalar_in word ≡ Some found.0) bytes.now found.1.now) }
 {
-    let (code, count) = leading_hexadecimal(bytes);
+    let mut code: u32 = 0;
+    let mut count = 0;
+    while count < MOST_DIGITS {
+        let Some(digit) = char::from(bytes[count]).to_digit(16) else {
+            break;
+        };
+        code = code * 16 + digit;
+        count += 1;
+    }
     if count < FEWEST_DIGITS {
         return None;
     }
@@ -111,25 +119,6 @@ fn leading_digits(bytes: &[u8]) -> (u32, usize)
     let mut count = 0;
     while count < FEW_DIGITS && bytes[count] >= b'0' && bytes[count] <= b'9' {
         value = value * 10 + u32::from(bytes[count] - b'0');
-        count += 1;
-    }
-    (value, count)
-}
-
-/// The number that the hexadecimal digits at the front write, and how many they are: of the first six bytes.
-fn leading_hexadecimal(bytes: &[u8]) -> (u32, usize)
-    requires { 6 < length bytes.now }
-    ensures within { result.1 ≤ 6 }
-    ensures digits { AllDigits 16 (take result.1 bytes.now) }
-    ensures value { result.0 ≡ digits_value 16 (take result.1 bytes.now) }
-{
-    let mut value: u32 = 0;
-    let mut count = 0;
-    while count < MOST_DIGITS {
-        let Some(digit) = char::from(bytes[count]).to_digit(16) else {
-            break;
-        };
-        value = value * 16 + digit;
         count += 1;
     }
     (value, count)
