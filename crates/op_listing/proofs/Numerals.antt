@@ -7,7 +7,7 @@ use Rattle.std.specs.Str.Parse.{AllDigits, digits_value}
 use Rattle.std.proofs.lemmas.Bool.{cases_lt, and_parts}
 use Rattle.std.proofs.lemmas.Int.Digits.{digits_value-lt, digits_value_more, digits_more}
 use Rattle.std.proofs.lemmas.Str.Parse.{digits_value-take-le}
-use borrow.Author.Tests.{ltb-true, lt-ltb, le-leb, lt-leb}
+use borrow.Author.Tests.{ltb-true, leb-true, lt-ltb, le-leb, lt-leb}
 use Rattle.op_listing.specs.Number.{is_digits, number_in, up_to}
 use Rattle.op_listing.specs.Line.{counter_in, scalar_in}
 
@@ -76,55 +76,36 @@ up_to-some limit n le = ap (λ t. cond t (Some n) None) (le-leb n limit le)
 pub up_to-above : (limit n : ℕ) → limit < n → up_to limit (Some n) ≡ None
 up_to-above limit n lt = ap (λ t. cond t (Some n) None) (lt-leb n limit lt)
 
--- ---- counters and characters
+-- ---- what a word of a right length writes
 
--- what was read from a word of a right length
-read_number_is : (base least most : ℕ) (word : List ℕ) (r : Option ℕ) → SomeIff r (AllDigits base word × (digits_value base word < 2 ^ 32)) (digits_value base word) → least ≤ length word → length word ≤ most
-    → r ≡ up_to 4_294_967_295 (number_in base least most word)
-read_number_is base least most word (Some x) h long short =
-    let v = digits_value base word in
-    ap Some h.1 ∙ sym (up_to-some 4_294_967_295 v (omega (arith, h.0.1))) ∙ sym (ap (up_to 4_294_967_295) (number_in-some base least most word h.0.0 long short))
-read_number_is base least most word None h long short = by_digits (is_digits base word) refl where
-  v : ℕ
-  v = digits_value base word
+pub number_written : (base least most : ℕ) (word : List ℕ) → AllDigits base word → digits_value base word < 2 ^ 32 → least ≤ length word → length word ≤ most
+    → up_to 4_294_967_295 (number_in base least most word) ≡ Some (digits_value base word)
+number_written base least most word all small long short =
+    ap (up_to 4_294_967_295) (number_in-some base least most word all long short) ∙ up_to-some 4_294_967_295 (digits_value base word) (omega (arith, small))
 
-  by_digits : (t : Bool) → is_digits base word ≡ t → None ≡ up_to 4_294_967_295 (number_in base least most word)
-  by_digits false e = sym (ap (up_to 4_294_967_295) (number_in-none base least most word e))
+pub no_number : (base least most : ℕ) (word : List ℕ) → ¬ (AllDigits base word × (digits_value base word < 2 ^ 32)) → least ≤ length word → length word ≤ most → up_to 4_294_967_295 (number_in base least most word) ≡ None
+no_number base least most word h long short = by_digits (is_digits base word) refl where
+  by_digits : (t : Bool) → is_digits base word ≡ t → up_to 4_294_967_295 (number_in base least most word) ≡ None
+  by_digits false e = ap (up_to 4_294_967_295) (number_in-none base least most word e)
   by_digits true e =
       let all = AllDigits-from base word e in
       let large : 4_294_967_295 < digits_value base word = elim (cases_lt 4_294_967_295 (digits_value base word)) [ inl lt ↦ lt | inr le ↦ absurd (h (all, omega (arith, le))) ] in
-      sym (ap (up_to 4_294_967_295) (number_in-some base least most word all long short) ∙ up_to-above 4_294_967_295 (digits_value base word) large)
-
-pub counter_read : (word : List ℕ) (r : Option ℕ) → SomeIff r (AllDigits 10 word × (digits_value 10 word < 2 ^ 32)) (digits_value 10 word) → 1 ≤ length word → length word ≤ 10 → r ≡ counter_in word
-counter_read word r h long short = read_number_is 10 1 10 word r h long short
+      ap (up_to 4_294_967_295) (number_in-some base least most word all long short) ∙ up_to-above 4_294_967_295 (digits_value base word) large
 
 pub counter_wrong : (word : List ℕ) → (length word < 1) ⊎ (10 < length word) → counter_in word ≡ None
 counter_wrong word wrong = ap (up_to 4_294_967_295) (number_in-wrong 10 1 10 word wrong)
 
-pub scalar_read : (word : List ℕ) (r : Option ℕ) → SomeIff r (AllDigits 16 word × (digits_value 16 word < 2 ^ 32)) (digits_value 16 word) → 4 ≤ length word → length word ≤ 6 → r ≡ scalar_in word
-scalar_read word (Some x) h long short = ap Some h.1 ∙ sym (number_in-some 16 4 6 word h.0.0 long short)
-scalar_read word None h long short = by_digits (is_digits 16 word) refl where
-  by_digits : (t : Bool) → is_digits 16 word ≡ t → None ≡ scalar_in word
-  by_digits false e = sym (number_in-none 16 4 6 word e)
-  by_digits true e =
-      let all = AllDigits-from 16 word e in
-      let small = digits_value-lt 16 word all in
-      let most = pow-le-pow_right {n = 16} (lit< tt) {i = length word} {j = 6} short in
-      absurd (h (all, omega (arith, small, most)))
+-- a word of few digits always writes a number that fits
+pub few_fit : (base least most : ℕ) (word : List ℕ) → 0 < base → base ^ most ≤ 2 ^ 32 → up_to 4_294_967_295 (number_in base least most word) ≡ number_in base least most word
+few_fit base least most word some few = by_test (is_digits base word && leb least (length word) && leb (length word) most) refl where
+  v : ℕ
+  v = digits_value base word
 
-pub decimal_read : (most : ℕ) (word : List ℕ) (r : Option ℕ) → most ≤ 9 → SomeIff r (AllDigits 10 word × (digits_value 10 word < 2 ^ 32)) (digits_value 10 word)
-    → 1 ≤ length word → length word ≤ most → r ≡ number_in 10 1 most word
-decimal_read most word (Some x) few h long short = ap Some h.1 ∙ sym (number_in-some 10 1 most word h.0.0 long short)
-decimal_read most word None few h long short = by_digits (is_digits 10 word) refl where
-  by_digits : (t : Bool) → is_digits 10 word ≡ t → None ≡ number_in 10 1 most word
-  by_digits false e = sym (number_in-none 10 1 most word e)
-  by_digits true e =
-      let all = AllDigits-from 10 word e in
-      let small = digits_value-lt 10 word all in
-      let largest = pow-le-pow_right {n = 10} (lit< tt) {i = length word} {j = 9} (omega (arith, short, few)) in
-      absurd (h (all, omega (arith, small, largest)))
-
--- ---- an answer that was given
-
-pub none_given : (r : Option ℕ) (P : Type 0) (v : ℕ) → r ≡ None → ¬ P → SomeIff r P v
-none_given r P v e h = subst (λ (o : Option ℕ). SomeIff o P v) (sym e) h
+  by_test : (t : Bool) → (is_digits base word && leb least (length word) && leb (length word) most) ≡ t → up_to 4_294_967_295 (cond t (Some v) None) ≡ cond t (Some v) None
+  by_test false e = refl
+  by_test true e =
+      let last = and_parts (is_digits base word && leb least (length word)) (leb (length word) most) e in
+      let all = AllDigits-from base word (and_parts (is_digits base word) (leb least (length word)) last.0).0 in
+      let small = digits_value-lt base word all in
+      let most_of = pow-le-pow_right {n = base} some {i = length word} {j = most} (leb-true (length word) most last.1) in
+      up_to-some 4_294_967_295 v (omega (arith, small, most_of, few))

@@ -52,10 +52,7 @@ pub fn read_parent(word: &[u8]) -> Option<Parent>
 pub fn read_scalar(word: &[u8]) -> Option<u32>
     ensures { result ≡ scalar_in word.now }
 {
-    if word.len() < FEWEST_DIGITS || word.len() > MOST_DIGITS {
-        return None;
-    }
-    read_number(word, 16)
+    read_number(word, 16, FEWEST_DIGITS, MOST_DIGITS)
 }
 
 /// The counter before a word's first point, and where that point is.
@@ -77,14 +74,5 @@ fn leading_counter(word: &[u8]) -> Option<(u32, usize)>
 fn read_site(word: &[u8]) -> Option<u16>
     ensures { result ≡ site_in word.now }
 {
-    u16::try_from(read_counter(word)?).ok()
-}
-
-fn read_counter(word: &[u8]) -> Option<u32>
-    ensures { result ≡ counter_in word.now }
-{
-    if word.is_empty() || word.len() > DECIMAL_DIGITS {
-        return None;
-    }
-    read_number(word, 10)
+    u16::try_from(read_number(word, 10, 1, DECIMAL_DIGITS)?).ok()
 }

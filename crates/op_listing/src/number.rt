@@ -1,9 +1,9 @@
 //! The number that a word writes.
 
-ghost use Rattle.std.specs.Prelude.{◌≡◌, ◌<◌, ◌≤◌, ◌^◌, length, take, get_or, SomeIff};
+ghost use Rattle.std.specs.Prelude.{◌≡◌, ◌<◌, ◌≤◌, length, take, get_or};
 ghost use Rattle.std.specs.Char.{digit_value};
 ghost use Rattle.std.specs.Str.Parse.{AllDigits, digits_value};
-ghost use Rattle.op_listing.specs.Number.{number_in};
+ghost use Rattle.op_listing.specs.Number.{number_in, up_to};
 
 /// The number that a word of 1 to `most` decimal digits writes, leading zeros included.
 /// Cost: O(n) of the word.
@@ -12,19 +12,19 @@ pub fn read_decimal(word: &[u8], most: usize) -> Option<u32>
     requires { most ≤ 9 }
     ensures { result ≡ number_in 10 1 most word.now }
 {
-    if word.is_empty() || word.len() > most {
-        return None;
-    }
-    read_number(word, 10)
+    read_number(word, 10, 1, most)
 }
 
-/// The number that a word writes in a base: none where a byte is not a digit of the base, or
-/// where the number is above `u32::MAX`.
-pub fn read_number(word: &[u8], base: u32) -> Option<u32>
+/// The number that a word of `least` to `most` digits of a base writes, leading zeros included: none where it is
+/// above `u32::MAX`.
+pub fn read_number(word: &[u8], base: u32, least: usize, most: usize) -> Option<u32>
     requires low { 2 ≤ base }
     requires high { base ≤ 16 }
-    ensures { SomeIff result (AllDigits base word.now × (digits_value base word.now < 2 ^ 32)) (digits_value base word.now) }
+    ensures { result ≡ up_to 4_294_967_295 (number_in base least most word.now) }
 {
+    if word.len() < least || word.len() > most {
+        return None;
+    }
     let mut value: u32 = 0;
     for byte in word {
         let digit = char::from(*byte).to_digit(base)?;
