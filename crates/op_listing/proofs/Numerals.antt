@@ -5,6 +5,7 @@ use Rattle.std.specs.Prelude.{SomeIff}
 use Rattle.std.specs.Char.{digit_value}
 use Rattle.std.specs.Str.Parse.{AllDigits, digits_value}
 use Rattle.std.proofs.lemmas.Bool.{cases_lt, and_parts}
+use Rattle.std.proofs.lemmas.List.{length-take-le}
 use Rattle.std.proofs.lemmas.Int.Digits.{digits_value-lt, digits_value_more, digits_more}
 use Rattle.std.proofs.lemmas.Str.Parse.{digits_value-take-le}
 use borrow.Author.Tests.{ltb-true, leb-true, lt-ltb, le-leb, lt-leb}
@@ -51,6 +52,15 @@ too_large base word i value digit some is large h =
     let part = digits_value-take-le base word (i + 1) some in
     let small = h.1 in
     large (let n = value * base + digit in omega (arith, is, part, small))
+
+-- so many digits write a number below the base's power
+pub few_digits : (base most : ℕ) (bytes : List ℕ) (count value : ℕ) → 0 < base → count ≤ length bytes → count ≤ most → AllDigits base (take count bytes) → value ≡ digits_value base (take count bytes)
+    → value < base ^ most
+few_digits base most bytes count value some within few all is =
+    let small = digits_value-lt base (take count bytes) all in
+    let long = length-take-le count bytes within in
+    let power = pow-le-pow_right {n = base} some {i = length (take count bytes)} {j = most} (omega (arith, long, few)) in
+    omega (arith, is, small, power)
 
 -- ---- words of a right or a wrong length
 

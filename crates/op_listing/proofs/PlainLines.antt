@@ -17,20 +17,9 @@ use Rattle.bg_types.specs.declared.op.OpView.TheVariants.{Insert, Erase}
 use Rattle.op_listing.specs.Number.{up_to}
 use Rattle.op_listing.specs.Line.{counter_in, site_in, scalar_in, identifier_in, parent_in, insertion_from, operation_in, operation_fault, words_fault}
 use Rattle.op_listing.specs.Plain.{TakesField, TakesLine, EndsLine}
-use Rattle.op_listing.proofs.Numerals.{number_in-some, up_to-some}
+use Rattle.op_listing.proofs.Numerals.{few_digits, number_in-some, up_to-some}
 use Rattle.op_listing.proofs.Parting.{more_lines}
 use Rattle.op_listing.proofs.ListedAgain.{AllAbove, above-append, above-less, split_before, IsProper, words_again, joined_above, digits_above, identifier_in-digits, some_word, faultless_words, lines-cons}
-
--- ---- digits
-
--- so many digits write a number below the base's power
-pub few_digits : (base most : ℕ) (bytes : List ℕ) (count value : ℕ) → 0 < base → count ≤ length bytes → count ≤ most → AllDigits base (take count bytes) → value ≡ digits_value base (take count bytes)
-    → value < base ^ most
-few_digits base most bytes count value some within few all is =
-    let small = digits_value-lt base (take count bytes) all in
-    let long = length-take-le count bytes within in
-    let power = pow-le-pow_right {n = base} some {i = length (take count bytes)} {j = most} (omega (arith, long, few)) in
-    omega (arith, is, small, power)
 
 -- ---- words at the front
 

@@ -2,8 +2,7 @@
 use Rattle.std.proofs.Common.{◌≡◌, get_or, refl, arith}
 use Rattle.std.specs.Char.{digit_value}
 use Rattle.std.proofs.lemmas.Str.{digit_value_digit}
-use Rattle.op_listing.proofs.Numerals.{more_digits}
-use Rattle.op_listing.proofs.PlainLines.{few_digits}
+use Rattle.op_listing.proofs.Numerals.{more_digits, few_digits}
 use Rattle.op_listing.proofs.plain.leading_digits.Goals as goal
 
 pub overflow_mul-value : goal.overflow_mul-value

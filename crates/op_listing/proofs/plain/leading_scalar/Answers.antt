@@ -1,7 +1,7 @@
 -- The goals of `leading_scalar` that are answered by hand.
 use Rattle.std.proofs.Common.{arith}
-use Rattle.op_listing.proofs.Numerals.{more_digits}
-use Rattle.op_listing.proofs.PlainLines.{few_digits, slice_from, scalar_taken}
+use Rattle.op_listing.proofs.Numerals.{more_digits, few_digits}
+use Rattle.op_listing.proofs.PlainLines.{slice_from, scalar_taken}
 use Rattle.op_listing.proofs.plain.leading_scalar.Goals as goal
 
 pub overflow_mul-code : goal.overflow_mul-code
