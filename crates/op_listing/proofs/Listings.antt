@@ -1,4 +1,4 @@
--- A listing lists one list of operations, or has one first faulty line, and never both; how one is written.
+-- A listing lists at most one list of operations, has at most one first faulty line, and never both; how one is written.
 use Rattle.std.proofs.Common.{◌≡◌, ℕ, ◌+◌, ◌<◌, ◌⊎◌, inl, inr, List, [], ◌∷◌, ◌++◌, length, get_or, take, refl, sym, ap, ◌∙◌, append-nil}
 use Rattle.std.specs.List.{flat_map}
 use Rattle.std.specs.Str.Lines.{lines}
@@ -10,12 +10,6 @@ use Rattle.op_listing.specs.Line.{line_fault}
 use Rattle.op_listing.specs.Listing.{line_of, listing_of}
 use Rattle.op_listing.specs.Listed.{line_operations, Lists, IsFaultyLine}
 use Rattle.op_listing.proofs.FirstFault.{either, never_both, one_fault}
-
-pub listed_or_faulty : (bytes : List ℕ) → ((ops : List OpView) × Lists bytes ops) ⊎ ((n : ℕ) × (fault : LineFault) × IsFaultyLine bytes n fault)
-listed_or_faulty bytes = elim (either line_fault (lines bytes)) [
-  | inl all ↦ inl (flat_map line_operations (lines bytes), record { faultless = all; written = refl })
-  | inr h ↦ inr h
-]
 
 pub one_listed : (bytes : List ℕ) (xs ys : List OpView) → Lists bytes xs → Lists bytes ys → xs ≡ ys
 one_listed bytes xs ys a b = a.written ∙ sym b.written

@@ -54,17 +54,6 @@ pub fn listed_again()
     ensures reads_back { (file : List ℕ) (ops again : List OpView) → Spells file ops → Lists (listing_of ops) again → again ≡ ops }
 {}
 
-/// A listing either lists one list of operations or has one first faulty line, never both.
-pub fn listed_or_faulty()
-    ensures either { (bytes : List ℕ)
-        → ((ops : List OpView) × Lists bytes ops) ⊎ ((n : ℕ) × (fault : LineFault) × IsFaultyLine bytes n fault) }
-    ensures one_list { (bytes : List ℕ) (a b : List OpView) → Lists bytes a → Lists bytes b → a ≡ b }
-    ensures never_both { (bytes : List ℕ) (ops : List OpView) (n : ℕ) (fault : LineFault)
-        → Lists bytes ops → IsFaultyLine bytes n fault → ⊥ }
-    ensures one_fault { (bytes : List ℕ) (m n : ℕ) (f g : LineFault)
-        → IsFaultyLine bytes m f → IsFaultyLine bytes n g → (m ≡ n) × (f ≡ g) }
-{}
-
 /// The bytes of a file decide the answer of `dump`, memory aside: a spelled one is written whole, or a
 /// beginning of it up to a failed write; of a faulty one the fault is reported. `Device` is answered exactly
 /// where the sink has failed.
