@@ -1,6 +1,6 @@
 -- What fields and frames show, by what is known of their parts.
-use Rattle.std.proofs.Common.{◌≡◌, ℕ, ◌≤◌, ◌<◌, true, false, Bool, leb, ltb, List, [], ◌∷◌, length, slice_index, take, drop, Option, Some, None, refl, sym, ap, ◌∙◌, ◌-◌, arith}
-use Rattle.std.specs.Prelude.{◌||◌, ◌&&◌, not, is_some, if◌then◌else◌}
+use Rattle.std.proofs.Common.{◌≡◌, ℕ, ◌≤◌, true, false, Bool, leb, List, [], ◌∷◌, length, slice_index, take, drop, Option, Some, None, refl, sym, ap, ◌∙◌, ◌-◌, arith}
+use Rattle.std.specs.Prelude.{◌||◌, not, is_some, if◌then◌else◌}
 use Rattle.std.proofs.Math.Utf8.{scalar}
 use Rattle.std.proofs.lemmas.Bool.{le-ltb}
 use Rattle.std.proofs.lemmas.List.{take_all, length-drop}

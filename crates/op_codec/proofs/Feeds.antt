@@ -1,7 +1,7 @@
 -- What a feed keeps, before and after a piece.
 use Rattle.std.proofs.Common.{◌≡◌, ℕ, ◌+◌, ◌<◌, ◌≤◌, false, List, [], ◌∷◌, ◌++◌, length, take, Option, Some, None, Result, Ok, Err, refl, sym, ap, subst, ◌∙◌, append_assoc, arith, inl, inr}
-use Rattle.std.specs.Prelude.{option_map, OnOk, OnErr, IfErr, IfSome, IfNone}
-use Rattle.std.specs.List.{flat_map, AllByRecursion}
+use Rattle.std.specs.Prelude.{option_map, OnOk, IfErr, IfSome, IfNone}
+use Rattle.std.specs.List.{AllByRecursion}
 use Rattle.std.proofs.lemmas.List.{append-nil, length-append, length-take, take-take}
 use Rattle.bg_types.specs.WellFormed.{IsWellFormed}
 use Rattle.bg_types.specs.declared.op.OpView.{OpView}
@@ -11,11 +11,11 @@ use Rattle.op_codec.specs.declared.fault.CodecFault.{CodecFault}
 use Rattle.op_codec.specs.declared.fault.CodecFault.TheVariants.{Malformed, Memory}
 use Rattle.op_codec.specs.declared.position.Version.{Version}
 use Rattle.op_codec.specs.declared.position.Position.{Position}
-use Rattle.op_codec.specs.Spelling.{Frame, frame_bytes, header, most_insertions, frames_of, tip_of, joins, spelling_in, Spells}
+use Rattle.op_codec.specs.Spelling.{Frame, header, most_insertions, frames_of, tip_of, joins, spelling_in, Spells}
 use Rattle.op_codec.specs.Fault.{header_cause, cause_at, IsFault, TellsFault}
-use Rattle.op_codec.specs.Feed.{IsWhole, IsSound, IsLasting, IsFeedOutcome, bytes_of, kept_cause, ShowsCause, IsCut, kept_fault, IsMissing, TellsKept, IsStopped, TakesFrame, IsBehind, TakesIn, AreTaken}
+use Rattle.op_codec.specs.Feed.{IsSound, IsLasting, IsFeedOutcome, bytes_of, kept_cause, ShowsCause, IsCut, kept_fault, IsMissing, TellsKept, IsStopped, TakesFrame, IsBehind, TakesIn, AreTaken}
 use Rattle.op_codec.proofs.Unique.{one_fault, never_both}
-use Rattle.op_codec.proofs.Faultless.{header_cause-header, cause_at-frame}
+use Rattle.op_codec.proofs.Faultless.{cause_at-frame}
 use Rattle.op_codec.proofs.Complete.{more_spelled}
 use Rattle.op_codec.proofs.Gathered.{frames_more, tip_more, more_well, length-frames_of}
 use Rattle.op_codec.proofs.Pieces.{all_fed, piece_faulty}

@@ -1,8 +1,8 @@
 -- The operations at the front of a list that make its first frame.
-use Rattle.std.proofs.Common.{◌≡◌, ℕ, ◌+◌, ◌<◌, ◌≤◌, true, false, ltb, Bool, cond, List, [], ◌∷◌, ◌++◌, length, get_or, take, drop, Option, Some, None, refl, sym, ap, subst, ◌∙◌, arith, ◌⊎◌, inl, inr}
+use Rattle.std.proofs.Common.{◌≡◌, ℕ, ◌+◌, ◌<◌, true, ltb, cond, List, [], ◌∷◌, ◌++◌, length, get_or, take, drop, Option, Some, None, refl, sym, ap, subst, ◌∙◌, arith}
 use Rattle.std.specs.List.{AllByRecursion}
-use Rattle.std.proofs.lemmas.Bool.{lt-ltb, le-ltb}
-use Rattle.std.proofs.lemmas.List.{append-nil, length-append, drop_all, take_more, drop_more}
+use Rattle.std.proofs.lemmas.Bool.{lt-ltb}
+use Rattle.std.proofs.lemmas.List.{append-nil, length-append, take_more, drop_more}
 use Rattle.bg_types.specs.Identifier.{Identifier}
 use Rattle.bg_types.specs.WellFormed.{IsWellFormed}
 use Rattle.bg_types.specs.declared.op.OpView.{OpView}
@@ -10,7 +10,7 @@ use Rattle.bg_types.specs.declared.op.OpView.TheVariants.{Insert, Erase}
 use Rattle.op_codec.specs.Spelling.{Frame, next_of, last_id, joins, tip, grown, gathered, frames_of}
 use Rattle.op_codec.specs.Frames.{IsFrame}
 use Rattle.op_codec.specs.Gathering.{inserted_characters}
-use Rattle.op_codec.proofs.Gathered.{alone, alone_is, grows, same_id, joined_is}
+use Rattle.op_codec.proofs.Gathered.{alone, grows, same_id, joined_is}
 
 -- the frame of an operation and these further insertions
 abbrev pub frame_of : OpView → List OpView → Frame

@@ -1,23 +1,18 @@
 -- Files that are migrated, and how long the two versions of one file are.
-use Rattle.std.proofs.Common.{◌≡◌, ℕ, ◌+◌, ◌≤◌, true, false, cond, List, [], ◌∷◌, ◌++◌, length, None, Result, Ok, Err, refl, sym, ap, subst, ◌∙◌, arith, ◌⊎◌, inl, inr}
-use Rattle.std.specs.Prelude.{◌↔◌, IfOk, IfErr, MatchResult}
-use Rattle.std.specs.Global.{Vec}
+use Rattle.std.proofs.Common.{◌≡◌, ℕ, ◌+◌, ◌≤◌, true, false, cond, List, [], ◌∷◌, ◌++◌, length, None, refl, sym, ap, subst, ◌∙◌, arith}
+use Rattle.std.specs.Prelude.{◌↔◌}
 use Rattle.std.specs.List.{flat_map}
 use Rattle.std.proofs.lemmas.List.{length-append}
 use Rattle.std.proofs.lemmas.List.Concat.{flat_map-cons}
 use Rattle.bg_types.specs.declared.op.OpView.{OpView}
 use Rattle.bg_types.specs.declared.op.OpView.TheVariants.{Insert, Erase}
-use Rattle.op_codec.specs.declared.fault.Cause.{Cause}
-use Rattle.op_codec.specs.declared.fault.CodecFault.{CodecFault}
-use Rattle.op_codec.specs.declared.fault.CodecFault.TheVariants.{Malformed, Memory}
 use Rattle.op_codec.specs.declared.position.Version.TheVariants.{One, Two}
 use Rattle.op_codec.specs.Spelling.{Frame, frame, frame_bytes, last_id, joins, tip, grown, gathered, spelling_in, Spells, SpellsIn}
-use Rattle.op_codec.specs.Fault.{IsFault, TellsFault}
 use Rattle.op_codec.specs.Migration.{IsMigration, AreApart}
 use Rattle.op_codec.proofs.Gathered.{alone, spelling_one}
 use Rattle.op_codec.proofs.Gathers.{no_erasure}
 use Rattle.op_codec.proofs.Written.{length-frame_bytes}
-use Rattle.op_codec.proofs.Unique.{one_list, never_both, one_fault}
+use Rattle.op_codec.proofs.Unique.{one_list}
 
 -- ---- the same operations
 

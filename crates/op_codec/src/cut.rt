@@ -1,6 +1,6 @@
 //! The beginning of a header or a frame that a piece cut, and how the next piece completes it.
 
-ghost use Rattle.std.specs.Prelude.{◌≡◌, ◌<◌, ◌≤◌, ◌+◌, ◌-◌, ◌^◌, ◌++◌, ℕ, Some, None, length, take, IfNone, IfSome, IfOk, OnOk, OnErr, IfErr, MatchOption};
+ghost use Rattle.std.specs.Prelude.{◌≡◌, ◌<◌, ◌≤◌, ◌+◌, ◌-◌, ◌^◌, ◌++◌, Some, None, length, take, IfNone, IfSome, IfOk, OnOk, IfErr};
 ghost use Rattle.arrayvec.specs.ArrayVec.{array_vec_len};
 ghost use Rattle.op_codec.specs.declared.fault.Cause.{Cause as CauseOf};
 ghost use Rattle.op_codec.specs.declared.fault.Cause.TheVariants.{Truncated};

@@ -1,10 +1,10 @@
 //! Writing a whole operation file of version 2.
 
-ghost use Rattle.std.specs.Prelude.{◌≡◌, ◌≤◌, ◌+◌, ◌-◌, ◌*◌, ◌^◌, ◌∷◌, ◌++◌, min, length, OnOk, IsOk, IfOk, vec_len};
+ghost use Rattle.std.specs.Prelude.{◌≡◌, ◌≤◌, ◌+◌, ◌-◌, ◌*◌, ◌^◌, ◌++◌, min, length, OnOk, IsOk, IfOk, vec_len};
 ghost use Rattle.std.specs.Vec.{vec_capacity};
 ghost use Rattle.std.specs.List.{flat_map};
 ghost use Rattle.byteorder.specs.Endian.{big_bytes};
-ghost use Rattle.op_codec.specs.Spelling.{frame_fields, frame_bytes, spelling_in, SpellsIn};
+ghost use Rattle.op_codec.specs.Spelling.{frame_bytes, spelling_in, SpellsIn};
 ghost use Rattle.op_codec.specs.Frames.{IsFrame};
 ghost use Rattle.op_codec.specs.Gathering.{inserted_characters};
 

@@ -1,14 +1,14 @@
 //! Runs of insertions: reading one, and what it stands for.
 
-ghost use Rattle.std.specs.Prelude.{◌≡◌, ◌<◌, ◌≤◌, ◌+◌, ◌-◌, ◌*◌, ◌^◌, ◌++◌, [], ℕ, Bool, length, take, drop, Some, None, IfOk, IfErr, OnOk, OnErr, IfSome, MatchResult, cond, nat_lt, nat_le, false};
-ghost use Rattle.std.specs.List.{AllByRecursion, flat_map, list_all};
+ghost use Rattle.std.specs.Prelude.{◌≡◌, ◌<◌, ◌≤◌, ◌+◌, ◌-◌, ◌*◌, ◌^◌, ◌++◌, [], length, take, drop, Some, None, IfOk, IfErr, OnOk, cond, nat_lt, false};
+ghost use Rattle.std.specs.List.{AllByRecursion, list_all};
 ghost use Rattle.std.specs.Char.{IsScalar};
 ghost use Rattle.std.proofs.Math.Utf8.{scalar};
-ghost use Rattle.byteorder.specs.Endian.{big_number, big_bytes};
-ghost use Rattle.bg_types.specs.WellFormed.{IsWellFormed, MayFollow};
-ghost use Rattle.op_codec.specs.Spelling.{Frame, frame_fields, parent_identifier, frame_ops, further_ops, followers, last_id, joins as joins_tip, tip, most_insertions};
+ghost use Rattle.byteorder.specs.Endian.{big_number};
+ghost use Rattle.bg_types.specs.WellFormed.{IsWellFormed};
+ghost use Rattle.op_codec.specs.Spelling.{frame_fields, frame_ops, further_ops, followers, last_id, joins as joins_tip, tip, most_insertions};
 ghost use Rattle.op_codec.specs.Frames.{IsFrame, MayGoOn};
-ghost use Rattle.op_codec.specs.Fault.{identifier_at, characters_in, numbers_cause, run_cause, is_run_length as has_run_length};
+ghost use Rattle.op_codec.specs.Fault.{characters_in, run_cause, is_run_length as has_run_length};
 ghost use Rattle.op_codec.specs.Feed.{IsNext};
 
 use crate::encode::parent_numbers;

@@ -4,12 +4,11 @@ ghost use Rattle.std.specs.Prelude.{◌≡◌, ◌≢◌, ◌<◌, ◌≤◌, �
 ghost use Rattle.std.specs.List.{AllByRecursion};
 ghost use Rattle.bg_types.specs.WellFormed.{IsWellFormed};
 ghost use Rattle.bg_types.specs.declared.op.OpView.{OpView as Operation};
-ghost use Rattle.op_codec.specs.declared.fault.Cause.{Cause as CauseOf};
 ghost use Rattle.op_codec.specs.declared.fault.Cause.TheVariants.{Truncated};
 ghost use Rattle.op_codec.specs.declared.fault.CodecFault.TheVariants.{Memory as memory};
 ghost use Rattle.op_codec.specs.Spelling.{spelling_in, Spells};
 ghost use Rattle.op_codec.specs.Fault.{header_cause, cause_at, TellsFault};
-ghost use Rattle.op_codec.specs.Feed.{IsBehind, bytes_of, kept_cause, IsCut, ShowsCause, AreTaken, Standing, StandsAfter, GoesOn, MovesOn, added};
+ghost use Rattle.op_codec.specs.Feed.{IsBehind, bytes_of, kept_cause, IsCut, ShowsCause, AreTaken, Standing, StandsAfter, GoesOn, added};
 
 use crate::cut::{Cut, complete_frame, complete_header, first_fault, judge, keep};
 use crate::fault::CodecFault;

@@ -1,5 +1,5 @@
 -- The goals of `read_whole` that are answered by hand.
-use Rattle.std.proofs.Common.{◌≡◌, Option, Some, true, ltb, sym, ap, ◌∙◌, subst}
+use Rattle.std.proofs.Common.{◌≡◌, Option, Some, ltb, sym, ◌∙◌, subst}
 use Rattle.std.specs.Prelude.{IfErr, if◌then◌else◌}
 use Rattle.std.proofs.lemmas.Bool.{lt-ltb}
 use Rattle.op_codec.specs.declared.fault.Cause.{Cause}
