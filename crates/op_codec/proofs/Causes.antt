@@ -11,7 +11,7 @@ use Rattle.op_codec.specs.declared.fault.Cause.{Cause}
 use Rattle.op_codec.specs.declared.fault.Cause.TheVariants.{Truncated, ZeroField, ParentNotBefore, NotAScalar}
 use Rattle.op_codec.specs.declared.position.Version.{Version}
 use Rattle.op_codec.specs.Spelling.{parent_identifier}
-use Rattle.op_codec.specs.Fault.{first_cause, or_else, identifier_at, has_zero, is_half_zero, numbers_cause, insertion_cause, kind_cause, frame_cause}
+use Rattle.op_codec.specs.Fault.{first_cause, or_else, identifier_at, has_zero, is_half_zero, numbers_cause, insertion_cause, length_cause, insertion_frame_cause, kind_cause, frame_cause}
 
 not_true : (b : Bool) → true ≡ not b → b ≡ false
 not_true true e = e
@@ -80,6 +80,10 @@ pub insertion_no_scalar : (f : List ℕ) (ch : ℕ) → numbers_cause f ≡ None
 insertion_no_scalar f ch none is other =
     let shown = sym (ap scalar is) ∙ never_true (scalar ch) other in
     insertion_parts f ∙ (λ i. or_else (none i) (first_cause ((not (shown i), NotAScalar) ∷ [])))
+
+-- the frame of such fields, of the right length
+pub insertion_framed : (bytes fields : List ℕ) (cause : Cause) → length_cause 17 bytes ≡ None → fields ≡ take 16 (drop 3 bytes) → insertion_cause fields ≡ Some cause → insertion_frame_cause bytes ≡ Some cause
+insertion_framed bytes fields cause whole fields_are shown = λ i. or_else (whole i) ((ap insertion_cause (sym fields_are) ∙ shown) i)
 
 -- ---- a frame
 

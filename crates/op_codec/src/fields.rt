@@ -1,28 +1,13 @@
 //! The fields of frames.
 
-ghost use Rattle.std.specs.Prelude.{◌≡◌, ◌≤◌, length, drop, is_some, not, IfSome, IfOk, IfErr, Some, None, MatchResult, nat_le, false};
-ghost use Rattle.bg_types.specs.WellFormed.{IsWellFormed, MayFollow};
-ghost use Rattle.op_codec.specs.Spelling.{frame_kind, frame_fields, identifier_bytes, parent_identifier};
-ghost use Rattle.op_codec.specs.Fault.{identifier_at, has_zero, is_half_zero, numbers_cause, insertion_cause};
+ghost use Rattle.std.specs.Prelude.{◌≡◌, ◌≤◌, length, drop, is_some, not, IfSome, IfOk, Some, None, MatchResult, nat_le, false};
+ghost use Rattle.bg_types.specs.WellFormed.{MayFollow};
+ghost use Rattle.op_codec.specs.Spelling.{parent_identifier};
+ghost use Rattle.op_codec.specs.Fault.{identifier_at, has_zero, is_half_zero, numbers_cause};
 
 use crate::fault::Cause;
 use bg_types::{Id, Op, Place};
 use byteorder::{BigEndian, ByteOrder};
-
-#[inline(always)]
-pub fn read_insertion(fields: &[u8]) -> Result<Op, Cause>
-    requires { length fields.now ≡ 16 }
-    ensures kind { IfOk result (λ op. frame_kind op ≡ 1) }
-    ensures fields { IfOk result (λ op. frame_fields op ≡ fields.now) }
-    ensures well_formed { IfOk result IsWellFormed }
-    ensures err { IfErr result (λ cause. insertion_cause fields.now ≡ Some cause) }
-{
-    let (id, parent) = read_numbers(fields)?;
-    match char::from_u32(BigEndian::read_u32(&fields[12..])) {
-        Some(ch) => Ok(Op::insert(id, parent, ch).unwrap()),
-        None => Err(Cause::NotAScalar),
-    }
-}
 
 /// The identifier and the parent of an insertion.
 #[inline(always)]

@@ -1,6 +1,6 @@
 //! Reading one frame of an operation file.
 
-ghost use Rattle.std.specs.Prelude.{◌≡◌, ◌<◌, ◌≤◌, ◌+◌, ◌-◌, ◌++◌, length, take, drop, slice_index, IfOk, IfErr, OnOk, MatchResult, Some, None};
+ghost use Rattle.std.specs.Prelude.{◌≡◌, ◌<◌, ◌≤◌, ◌+◌, ◌-◌, length, take, drop, slice_index, IfOk, IfErr, OnOk, MatchResult, Some, None};
 ghost use Rattle.byteorder.specs.Endian.{big_number};
 ghost use Rattle.op_codec.specs.Spelling.{most_insertions};
 ghost use Rattle.op_codec.specs.Frames.{BeginsWith};
@@ -8,7 +8,7 @@ ghost use Rattle.op_codec.specs.Fault.{length_cause, insertion_frame_cause, eras
 ghost use Rattle.op_codec.specs.Feed.{TakesFrame};
 
 use crate::fault::Cause;
-use crate::fields::{read_id, read_insertion};
+use crate::fields::{read_id, read_numbers};
 use crate::format::{ERASURE, ERASURE_LENGTH, INSERTION, INSERTION_FIELDS, INSERTION_LENGTH, RUN};
 use crate::position::{Position, Version};
 use crate::run::{is_run_length, joins, read_run};
@@ -68,12 +68,15 @@ fn read_insertion_frame(bytes: &[u8]) -> Result<Read<'_>, Cause>
     ensures err { IfErr result (λ cause. insertion_frame_cause bytes.now ≡ Some cause) }
 {
     let (fields, rest) = split_frame(bytes, INSERTION_LENGTH)?;
-    let first = read_insertion(fields)?;
-    Ok(Read {
-        first,
-        further: &[],
-        rest,
-    })
+    let (id, parent) = read_numbers(fields)?;
+    match char::from_u32(BigEndian::read_u32(&fields[12..])) {
+        Some(ch) => Ok(Read {
+            first: Op::insert(id, parent, ch).unwrap(),
+            further: &[],
+            rest,
+        }),
+        None => Err(Cause::NotAScalar),
+    }
 }
 
 fn read_erasure_frame(bytes: &[u8]) -> Result<Read<'_>, Cause>
@@ -119,6 +122,7 @@ fn split_frame(bytes: &[u8], wanted: u16) -> Result<(&[u8], &[u8]), Cause>
     ensures size { OnOk result (big_number 2 bytes.now ≡ wanted) }
     ensures whole { OnOk result (2 + wanted ≤ length bytes.now) }
     ensures fields { IfOk result (λ parts. parts.0.now ≡ take (wanted - 1) (drop 3 bytes.now)) }
+    ensures count { IfOk result (λ parts. length parts.0.now ≡ wanted - 1) }
     ensures rest { IfOk result (λ parts. parts.1.now ≡ drop (2 + wanted) bytes.now) }
     ensures fault { MatchResult result (λ _. length_cause wanted bytes.now ≡ None)
         (λ cause. length_cause wanted bytes.now ≡ Some cause) }

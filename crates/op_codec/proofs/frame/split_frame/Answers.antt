@@ -1,6 +1,6 @@
 -- The goals of `split_frame` that are answered by hand.
 use Rattle.std.proofs.Common.{◌≡◌, ◌≤◌, ◌<◌, ◌+◌, ◌-◌, ℕ, List, length, drop, Some, None, sym, ap, ◌∙◌, arith, rules}
-use Rattle.std.proofs.lemmas.List.{take_all, length-drop}
+use Rattle.std.proofs.lemmas.List.{take_all, length-take, length-drop}
 use Rattle.byteorder.specs.Endian.{big_number}
 use Rattle.op_codec.specs.declared.fault.Cause.TheVariants.{Truncated}
 use Rattle.op_codec.specs.Fault.{length_cause}
@@ -19,6 +19,11 @@ returns-then-bytes-end-clause-fault c =
 
 pub returns-clause-size : goal.returns-clause-size
 returns-clause-size c = sym c.read_u16.ensures ∙ c.if-read_u16-wanted.false
+
+pub returns-clause-count : goal.returns-clause-count
+returns-clause-count c =
+    let bytes = c.args.bytes.now in
+    omega (arith, length-take (2 + c.from-end.result - 3) (drop 3 bytes), length-drop 3 bytes, c.if-bytes-end.false, c.from-end.ensures)
 
 pub returns-clause-rest : goal.returns-clause-rest
 returns-clause-rest c =
