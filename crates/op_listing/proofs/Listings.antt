@@ -1,6 +1,5 @@
 -- A listing lists at most one list of operations, has at most one first faulty line, and never both; how one is written.
-use Rattle.std.proofs.Common.{◌≡◌, ℕ, ◌+◌, ◌<◌, ◌⊎◌, inl, inr, List, [], ◌∷◌, ◌++◌, length, get_or, take, refl, sym, ap, ◌∙◌, append-nil}
-use Rattle.std.specs.List.{flat_map}
+use Rattle.std.proofs.Common.{◌≡◌, ℕ, ◌+◌, ◌<◌, List, [], ◌∷◌, ◌++◌, length, get_or, take, sym, ap, ◌∙◌, append-nil}
 use Rattle.std.specs.Str.Lines.{lines}
 use Rattle.std.proofs.lemmas.List.{take_more}
 use Rattle.std.proofs.lemmas.List.Concat.{flat_map-append}
@@ -8,8 +7,8 @@ use Rattle.bg_types.specs.declared.op.OpView.{OpView}
 use Rattle.op_listing.specs.declared.line_fault.LineFault.{LineFault}
 use Rattle.op_listing.specs.Line.{line_fault}
 use Rattle.op_listing.specs.Listing.{line_of, listing_of}
-use Rattle.op_listing.specs.Listed.{line_operations, Lists, IsFaultyLine}
-use Rattle.op_listing.proofs.FirstFault.{either, never_both, one_fault}
+use Rattle.op_listing.specs.Listed.{Lists, IsFaultyLine}
+use Rattle.op_listing.proofs.FirstFault.{never_both, one_fault}
 
 pub one_listed : (bytes : List ℕ) (xs ys : List OpView) → Lists bytes xs → Lists bytes ys → xs ≡ ys
 one_listed bytes xs ys a b = a.written ∙ sym b.written

@@ -1,7 +1,6 @@
 -- The numbers read from a word are those that the word writes.
-use Rattle.std.proofs.Common.{◌≡◌, ℕ, ◌+◌, ◌*◌, ◌^◌, ◌<◌, ◌≤◌, Bool, true, false, cond, ◌&&◌, ltb, leb, List, [], ◌∷◌, length, get_or, take, Option, Some, None, refl, sym, ap, ◌∙◌, inl, inr, ◌⊎◌, arith, subst, suc, zero, lit<}
+use Rattle.std.proofs.Common.{◌≡◌, ℕ, ◌+◌, ◌*◌, ◌^◌, ◌<◌, ◌≤◌, Bool, true, false, cond, ◌&&◌, ltb, leb, List, [], ◌∷◌, length, get_or, take, Some, None, refl, sym, ap, ◌∙◌, inl, inr, ◌⊎◌, arith, subst, suc, zero}
 use Rattle.std.proofs.Math.Nat.{pow-le-pow_right}
-use Rattle.std.specs.Prelude.{SomeIff}
 use Rattle.std.specs.Char.{digit_value}
 use Rattle.std.specs.Str.Parse.{AllDigits, digits_value}
 use Rattle.std.proofs.lemmas.Bool.{cases_lt, and_parts}
@@ -10,7 +9,7 @@ use Rattle.std.proofs.lemmas.Int.Digits.{digits_value-lt, digits_value_more, dig
 use Rattle.std.proofs.lemmas.Str.Parse.{digits_value-take-le}
 use borrow.Author.Tests.{ltb-true, leb-true, lt-ltb, le-leb, lt-leb}
 use Rattle.op_listing.specs.Number.{is_digits, number_in, up_to}
-use Rattle.op_listing.specs.Line.{counter_in, scalar_in}
+use Rattle.op_listing.specs.Line.{counter_in}
 
 -- ---- digits
 

@@ -5,11 +5,9 @@ use Rattle.std.specs.Result.{result_ok}
 use Rattle.std.specs.List.{join_with_byte, slice_split, AllByRecursion}
 use Rattle.std.specs.Str.Lines.{lines, lines_of_parts, strip_carriage_return}
 use Rattle.std.specs.Str.Parse.{AllDigits, digits_value}
-use Rattle.std.proofs.Math.Nat.{pow-le-pow_right}
 use Rattle.std.proofs.Math.Seq.{take-append_seam}
 use Rattle.std.proofs.lemmas.List.{length-take-le, length-drop, length-append, take-append-drop, take_all}
 use Rattle.std.proofs.lemmas.List.Splits.{length-slice_split}
-use Rattle.std.proofs.lemmas.Int.Digits.{digits_value-lt}
 use Rattle.bg_types.specs.Identifier.{Identifier}
 use Rattle.bg_types.specs.declared.op.Place.{Place}
 use Rattle.bg_types.specs.declared.op.OpView.{OpView}

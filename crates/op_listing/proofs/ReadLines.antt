@@ -1,15 +1,14 @@
 -- Reading the lines of a listing one after the other.
-use Rattle.std.proofs.Common.{◌≡◌, ℕ, ◌+◌, List, [], ◌∷◌, ◌++◌, length, Some, None, refl, sym, ap, ◌∙◌, subst}
+use Rattle.std.proofs.Common.{◌≡◌, ℕ, ◌+◌, List, [], ◌∷◌, ◌++◌, None, sym, ap, ◌∙◌}
 use Rattle.std.specs.List.{flat_map}
 use Rattle.std.specs.Str.Lines.{lines}
 use Rattle.std.proofs.lemmas.List.{append-nil}
 use Rattle.std.proofs.lemmas.List.Concat.{flat_map-append}
 use Rattle.bg_types.specs.declared.op.OpView.{OpView}
-use Rattle.op_listing.specs.declared.line_fault.LineFault.{LineFault}
-use Rattle.op_listing.specs.FirstFault.{AreFaultless, AreRead}
+use Rattle.op_listing.specs.FirstFault.{AreRead}
 use Rattle.op_listing.specs.Line.{line_fault}
-use Rattle.op_listing.specs.Listed.{line_operations, Lists, IsFaultyLine}
-use Rattle.op_listing.proofs.FirstFault.{begin, more, faulty, end}
+use Rattle.op_listing.specs.Listed.{line_operations}
+use Rattle.op_listing.proofs.FirstFault.{more}
 
 -- the lines before the rest are read: this many, none faulty, and they write these operations
 pub record IsReadTo (text rest : List ℕ) (number : ℕ) (ops : List OpView) : Type 0 where

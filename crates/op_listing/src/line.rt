@@ -2,7 +2,7 @@
 
 ghost use Rattle.std.specs.Prelude.{◌≡◌, Some, None, option_to_list, not, is_some, IfOk, IfSome, MatchResult};
 ghost use Rattle.op_listing.specs.Words.{words};
-ghost use Rattle.op_listing.specs.Line.{operation_in, insertion_in, erasure_in, parent_has_zero, operation_fault, written_fault, line_fault};
+ghost use Rattle.op_listing.specs.Line.{insertion_in, erasure_in, parent_has_zero, operation_fault, written_fault, line_fault};
 ghost use Rattle.op_listing.specs.Listed.{line_operations};
 ghost use Rattle.op_listing.specs.Field.{identifier_of, parent_place};
 
