@@ -9,3 +9,15 @@ pub mod StepAnswers
 pub mod OneRefusal
 pub mod Plans
 pub mod ReplayDecided
+pub mod Walks
+pub mod WalkAnswers
+pub mod CaretsDecided
+pub mod Lists
+pub mod Answered
+pub mod Sets
+pub mod Erased
+pub mod TypedRun
+pub mod FileSize
+pub mod Held
+pub mod Together
+pub mod NewIdentifiers

@@ -20,7 +20,7 @@ use Rattle.ucd_files.specs.Tables.{TableValues}
 use Rattle.view_cache.specs.Drawings.{KeptView}
 use Rattle.desk_replica.specs.Desk.{Desk}
 use Rattle.desk_replica.specs.DeskSets.{sets_of}
-use Rattle.desk_runs.specs.declared.engine.setting.Setting.{Setting}
+use Rattle.desk_runs.specs.declared.replaying.setting.Setting.{Setting}
 use Rattle.desk_runs.specs.Setting.{print_in, files_in, IsStepsOutcomeIn}
 use Rattle.desk_files.proofs.Interface.{answer_handed, take-push, split-at}
 

@@ -16,7 +16,7 @@ use Rattle.desk_files.specs.declared.schedule.step.RunStep.TheVariants.{Show}
 use Rattle.desk_files.specs.Files.{lists_of}
 use Rattle.desk_files.specs.Schedule.{file_at}
 use Rattle.desk_files.specs.declared.run_fault.RunFault.{RunFault}
-use Rattle.desk_runs.specs.declared.engine.setting.Setting.{Setting}
+use Rattle.desk_runs.specs.declared.replaying.setting.Setting.{Setting}
 use Rattle.desk_runs.specs.Setting.{print_in, files_in, IsStepsOutcomeIn}
 use Rattle.desk_runs.specs.Shows.{IsShowOutcome}
 use Rattle.desk_runs.specs.Steps.{at_line, operation_at, desk_step, sets_after_done, sets_after_step, IsDoneRefused, IsStepRefused}

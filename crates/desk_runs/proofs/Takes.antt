@@ -5,7 +5,7 @@ use Rattle.desk_replica.specs.Desk.{Desk}
 use Rattle.desk_replica.specs.DeskSets.{sets_of}
 use Rattle.desk_files.specs.declared.run_fault.RunFault.{RunFault}
 use Rattle.desk_files.specs.declared.schedule.step.Numbered.{Numbered}
-use Rattle.desk_runs.specs.declared.engine.setting.Setting.{Setting}
+use Rattle.desk_runs.specs.declared.replaying.setting.Setting.{Setting}
 use Rattle.desk_runs.specs.Setting.{print_in, files_in, IsSilentOutcomeIn}
 use Rattle.desk_runs.specs.Shows.{Ran}
 use Rattle.desk_runs.proofs.Running.{IsBeginning, ran_nothing, ran_then, ended_early}

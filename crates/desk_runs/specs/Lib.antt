@@ -8,3 +8,10 @@ pub mod Printed
 pub mod ReplayOutcome
 pub mod Setting
 pub mod Room
+pub mod Carets
+pub mod WalkCause
+pub mod CaretsOutcome
+pub mod Fault
+pub mod Changing
+pub mod TypedOutcome
+pub mod SameFiles

@@ -7,7 +7,7 @@ use Rattle.bg_types.specs.declared.class.Bidi.TheVariants.{B}
 use Rattle.bg_types.specs.declared.op.OpView.{OpView}
 use Rattle.bg_types.specs.declared.op.OpView.TheVariants.{Insert, Erase}
 use Rattle.ucd_files.specs.Tables.{TableValues, bidi_of}
-use Rattle.desk_runs.specs.declared.engine.setting.Setting.{Setting}
+use Rattle.desk_runs.specs.declared.replaying.setting.Setting.{Setting}
 
 -- an operation puts in a character that can end a paragraph (UAX #9, P1)
 abbrev pub puts_separator : TableValues → OpView → Bool

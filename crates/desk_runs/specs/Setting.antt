@@ -6,7 +6,7 @@ use Rattle.desk_replica.specs.DeskSets.{sets_of}
 use Rattle.view_cache.specs.Drawings.{KeptView}
 use Rattle.desk_files.specs.Files.{lists_of}
 use Rattle.desk_files.specs.declared.run_fault.RunFault.{RunFault}
-use Rattle.desk_runs.specs.declared.engine.setting.Setting.{Setting}
+use Rattle.desk_runs.specs.declared.replaying.setting.Setting.{Setting}
 use Rattle.desk_files.specs.declared.schedule.step.Numbered.{Numbered}
 use Rattle.desk_runs.specs.Printed.{printed}
 use Rattle.desk_runs.specs.Shows.{IsStepsOutcome}

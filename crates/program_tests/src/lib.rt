@@ -6,8 +6,6 @@ mod carets_tests;
 #[cfg(test)]
 mod command_line_tests;
 #[cfg(test)]
-mod desk_typing_tests;
-#[cfg(test)]
 mod ending_tests;
 #[cfg(test)]
 mod files;
@@ -23,3 +21,5 @@ mod rows;
 mod run_fault_tests;
 #[cfg(test)]
 mod text_tests;
+#[cfg(test)]
+mod typing_tests;

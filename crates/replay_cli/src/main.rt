@@ -12,10 +12,8 @@ use command_line::{
     Data, INPUT, Job, PROGRAM, Replay, Stop, Typing, Unread, Walk, end, flush, folder_of, job,
     open_all, path_of, read, read_data, report, tell, words,
 };
-use desk_carets::carets_from;
 use desk_files::{RunFault, status, text_from};
-use desk_runs::replay_from;
-use desk_typing::{Change, TypingFault, typed};
+use desk_runs::{Change, TypingFault, carets_from, replay_from, typed};
 use key::draw_key;
 use op_codec::Source;
 use op_listing::{dump, migrate, pack};

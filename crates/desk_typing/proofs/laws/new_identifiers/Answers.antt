@@ -1,6 +1,0 @@
--- The goals of `new_identifiers` that are answered by hand.
-use Rattle.desk_typing.proofs.NewIdentifiers.{above, own_site, once, apart}
-use Rattle.desk_typing.proofs.laws.new_identifiers.Goals as goal
-
-pub returns : goal.returns
-returns c = record { above = above; site = own_site; once = once; apart = apart }
