@@ -25,7 +25,7 @@ class Log:
         self.waiting = bytearray()
         self.size = self.kept = self.flushing = 0
         try:
-            self.file = os.open(path, os.O_RDWR | os.O_CREAT | os.O_CLOEXEC, 0o666)
+            self.file, self.is_new = opened(path)
         except OSError as error:
             raise EditFault(f"cannot open {path}: {reason(error)}") from None
         try:
@@ -189,8 +189,17 @@ class Log:
         os.close(self.file)
 
     def discard(self) -> None:
-        """Gives the file back, and takes it away where nothing was ever written to it."""
-        if self.size <= HEADER_SIZE:
+        """Gives the file back, and takes it away where it is new and nothing was written to it."""
+        if self.is_new and self.size <= HEADER_SIZE:
             os.unlink(self.path)
             self.waiting.clear()
         self.close()
+
+
+def opened(path: str) -> tuple[int, bool]:
+    """A file that is opened, or made where there is none, and whether it was."""
+    how = os.O_RDWR | os.O_CREAT | os.O_CLOEXEC
+    try:
+        return os.open(path, how | os.O_EXCL, 0o666), True
+    except FileExistsError:
+        return os.open(path, how, 0o666), False

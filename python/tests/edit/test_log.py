@@ -134,6 +134,16 @@ def test_a_log_that_is_gone_makes_a_new_site(tmp_path: Path) -> None:
     assert len(sites) > 1
 
 
+@pytest.mark.parametrize("is_there", [True, False])
+def test_a_refused_start_takes_away_only_what_it_made(tmp_path: Path, is_there: bool) -> None:
+    log = tmp_path / "notes.bgop"
+    if is_there:
+        log.touch()
+    with pytest.raises(EditFault):
+        in_folder(log, tmp_path / "nowhere", site=1)
+    assert log.exists() == is_there
+
+
 def letters(log: bytes) -> str:
     """The letters that a log of insertions has."""
     return "".join(it.character or "" for it in operations(log))
