@@ -3,8 +3,8 @@
 from struct import iter_unpack
 from typing import Any, NamedTuple
 
-from ._bidigrid import ffi
-from .fault import must
+from ._bidigrid import ffi, lib
+from .fault import fault, must
 from .room import Call, Room, written
 
 
@@ -54,6 +54,16 @@ class Row:
         if self._entries is None:
             self._entries = tuple(self._unpacked())
         return self._entries
+
+    def column_of(self, gap: int) -> int:
+        """The column where a caret in this gap is seen: that of the entry right of it, or where the last one ends, which may
+        be behind the row's last cell. An IndexError where there is no such gap."""
+        entries = self.entries
+        if not 0 <= gap <= len(entries):
+            raise fault(lib.BIDIGRID_FAULT_BAD_CARET)
+        if gap < len(entries):
+            return entries[gap].column
+        return entries[-1].column + entries[-1].columns if entries else self.column
 
     def _unpacked(self) -> list[Entry]:
         at, made = self.column, []

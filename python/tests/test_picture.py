@@ -39,6 +39,17 @@ def test_entries_stand_in_visual_order() -> None:
     assert last.entries == () and (last.first_place, last.last_place, last.level) == (6, 6, 0)
 
 
+def test_gaps_have_columns() -> None:
+    wide, hebrew, empty = layout("a世\nאב\n", 5).rows
+    assert [wide.column_of(gap) for gap in range(4)] == [0, 1, 3, 3]
+    assert [hebrew.column_of(gap) for gap in range(4)] == [3, 3, 4, 5]
+    assert empty.column_of(0) == 0
+    for row, gap in ((wide, 4), (wide, -1), (empty, 1)):
+        with pytest.raises(Fault) as raised:
+            row.column_of(gap)
+        assert raised.value.name == "BadCaret" and isinstance(raised.value, IndexError)
+
+
 def test_entries_show_what_is_seen() -> None:
     (row,) = layout("א(e\u0301)世\u200f\tb", 12, "right").rows
     assert str(row) == "  b 世(e\u0301)א"[:2] + str(row)[2:]

@@ -36,15 +36,6 @@ def character_at(document: Document, place: int) -> Identifier | None:
     return document.id_at(place) if place < len(document) else None
 
 
-def column_of_gap(row: Row, gap: int) -> int:
-    """The column where a gap of a row is seen."""
-    if gap < len(row.entries):
-        return row.entries[gap].column
-    if row.entries:
-        return row.entries[-1].column + row.entries[-1].columns
-    return row.column
-
-
 def between(document: Document, place: int) -> Between:
     """The characters before a place and behind it; none at an end of the text."""
     return before(document, place), character_at(document, place)

@@ -5,7 +5,6 @@ from __future__ import annotations
 from collections.abc import Callable, Iterable
 
 from .. import Document, Position, Row
-from .carets import column_of_gap
 
 Move = Callable[[Position], Position]
 VERTICAL = ("up", "down", "page-up", "page-down")
@@ -37,7 +36,7 @@ def row_of(document: Document, at: Position) -> Row:
 
 def column_of(document: Document, at: Position) -> int:
     """The column where a position is seen."""
-    return column_of_gap(row_of(document, at), at.gap)
+    return row_of(document, at).column_of(at.gap)
 
 
 def step(document: Document, at: Position, move: Move) -> Position:

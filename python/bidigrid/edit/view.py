@@ -32,7 +32,7 @@ def view_of(editor: Editor) -> View:
         page = min(editor.page, len(pages))
         more = f"keys, {page} of {len(pages)}: F1 goes on | " if len(pages) > 1 else ""
         return View(editor.document.width, pages[page - 1], 0, 0, (0, 0), (), more + status(editor))
-    column = carets.column_of_gap(rows[editor.line], editor.at.gap)
+    column = rows[editor.line].column_of(editor.at.gap)
     seen = tuple(others(editor, rows))
     return View(editor.document.width, rows, editor.line, column, editor.selected(), seen, status(editor))
 
