@@ -40,12 +40,6 @@ module _ (files : List (List OpView)) where
         (λ i. h.said i ++ with_line (number + 1) (step_said (is i))) ∙ ap (λ k. steps_from files 1 h.done ++ with_line k (step_said (line_says files line))) number_is ∙ sym (steps_push 1 h.done line);
   }
 
-  pub all_steps_read : (text rest : List ℕ) (number : ℕ) (steps : List Numbered) (h : AreStepsRead text rest number steps) → h.done ≡ lines text → Schedules files text steps
-  all_steps_read text rest number steps h all = record {
-    faultless = subst (AreFaultless (fault_in files)) all h.lines_are.faultless;
-    said = h.said ∙ ap (steps_from files 1) all;
-  }
-
   pub all_there : (xs : List Numbered) (x : Numbered) → AllByRecursion (λ s. IsStepOf files s.step) xs → IsStepOf files x.step → AllByRecursion (λ s. IsStepOf files s.step) (xs ++ x ∷ [])
   all_there [] x h p = (p, tt)
   all_there (y ∷ xs) x h p = (h.0, all_there xs x h.1 p)
