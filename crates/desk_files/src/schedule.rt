@@ -30,7 +30,8 @@ pub fn read_schedule(
 {
     laws::lines_read::<ScheduleFault>();
     // Room for a step a line is taken once.
-    let mut steps = Vec::with_capacity(alloc, count_lines(schedule))?;
+    let ends = schedule.iter().filter(|b| **b == b'\n').count();
+    let mut steps = Vec::with_capacity(alloc, ends.saturating_add(1))?;
     let mut number = 0;
     let mut rest = schedule;
     while !rest.is_empty() {
@@ -44,12 +45,4 @@ pub fn read_schedule(
         rest = after;
     }
     Ok(steps)
-}
-
-/// At least how many lines a text has.
-fn count_lines(text: &[u8]) -> usize {
-    text.iter()
-        .filter(|b| **b == b'\n')
-        .count()
-        .saturating_add(1)
 }
