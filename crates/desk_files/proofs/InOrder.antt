@@ -1,5 +1,6 @@
 -- Operations that a desk took in order: what it holds then.
 use Rattle.std.proofs.Common.{◌≡◌, ◌≤◌, ◌⊎◌, inl, inr, ℕ, zero, suc, List, [], ◌∷◌, ◌++◌, length, take, refl, sym, subst, arith, append_assoc, append-nil}
+use Rattle.std.proofs.lemmas.List.{take_all}
 use Rattle.std.proofs.lemmas.Option.{slice_get_within, get_or_from_slice_get}
 use Rattle.bg_types.specs.OperationSet.{OperationSet, MayJoin, ReusesIdentifier, with_operation, size}
 use Rattle.bg_types.specs.declared.op.OpView.{OpView}
@@ -30,8 +31,14 @@ set_of_accepted holds before (op ∷ ops) s (suc n) within h accepted =
     (set_of_accepted holds (before ++ op ∷ []) ops (with_operation s op) n (omega (arith, within)) (IsSetOf-push holds before op s h may)
     (λ k q fault less at refused. accepted (suc k) q fault (omega (arith, less)) at refused))
 
-pub set_of_taken : HoldsBoth → (before ops : List OpView) (n : ℕ) (desk after : Desk) → AreTaken desk ops n after → IsSetOf before desk.set → IsSetOf (before ++ take n ops) after.set
+set_of_taken : HoldsBoth → (before ops : List OpView) (n : ℕ) (desk after : Desk) → AreTaken desk ops n after → IsSetOf before desk.set → IsSetOf (before ++ take n ops) after.set
 set_of_taken holds before ops n desk after taken h = subst (IsSetOf (before ++ take n ops)) (sym taken.set) (set_of_accepted holds before ops desk.set n taken.within h taken.accepted)
+
+-- all of them are taken
+pub set_of_all : HoldsBoth → (before ops : List OpView) (desk after : Desk) → AreTaken desk ops (length ops) after → IsSetOf before desk.set → IsSetOf (before ++ ops) after.set
+set_of_all holds before ops desk after taken h =
+    let all : length ops ≤ length ops = omega arith in
+    subst (λ l. IsSetOf (before ++ l) after.set) (take_all (length ops) ops all) (set_of_taken holds before ops (length ops) desk after taken h)
 
 -- the next one is refused
 pub stopped_at : HoldsBoth → (before ops : List OpView) (n : ℕ) (desk after : Desk) (fault : TakeFault) → AreTaken desk ops n after → IsRefusedNext after ops n fault → IsSetOf before desk.set → size after.set ≤ 1_000_000

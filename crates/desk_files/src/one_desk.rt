@@ -169,9 +169,9 @@ fn take_more(desk: &mut Desk, refused: &mut Option<TakeFault>, ops: &mut [Op]) -
         return Ok(());
     }
     put_in_order(desk, ops);
-    match take_all(desk, ops) {
+    match desk.take_all(ops) {
         Ok(()) => Ok(()),
-        Err(fault) => keep_refusal(refused, fault),
+        Err(stop) => keep_refusal(refused, stop.fault),
     }
 }
 
@@ -238,21 +238,6 @@ fn named(op: &Op) -> Id {
     match op.view() {
         OpView::Insert { id, .. } => id,
         OpView::Erase { target } => target,
-    }
-}
-
-/// Takes the operations in order. A fault ends the taking.
-fn take_all(desk: &mut Desk, ops: &[Op]) -> Result<(), TakeFault>
-    ensures ok { (before : List Operation) → IsSetOf before desk.old.set → OnOk result (IsSetOf (before ++ ops.now) desk.new.set) }
-    ensures limited { size desk.old.set ≤ 1_000_000 → OnOk result (size desk.new.set ≤ 1_000_000) }
-    ensures site { desk.new.site ≡ desk.old.site }
-    ensures fault { (before : List Operation) → IsSetOf before desk.old.set → size desk.old.set ≤ 1_000_000
-        → IfErr result (λ fault. (fault ≡ TakeFault.Memory) ⊎ IsFirstRefusal (before ++ ops.now) fault) }
-{
-    sets::one_more_operation();
-    match desk.take_all(ops) {
-        Ok(()) => Ok(()),
-        Err(stop) => Err(stop.fault),
     }
 }
 
