@@ -64,19 +64,6 @@ fn read_take(fields: &[u8], files: &[Vec<Op>]) -> Result<RunStep, ScheduleFault>
     let desk = read_count(desk).ok_or(ScheduleFault::BadNumber)?;
     let file = read_count(file).ok_or(ScheduleFault::BadNumber)?;
     let op = read_count(op).ok_or(ScheduleFault::BadNumber)?;
-    tested_take(desk, file, op, files)
-}
-
-/// The step by which a desk takes an operation of a file, if all three are there.
-fn tested_take(
-    desk: usize,
-    file: usize,
-    op: usize,
-    files: &[Vec<Op>],
-) -> Result<RunStep, ScheduleFault>
-    ensures said { result ≡ take_of (lists_of files.now) (Some desk) (Some file) (Some op) }
-    ensures there { IfOk result (IsStepOf (lists_of files.now)) }
-{
     if !is_among(desk, files.len()) {
         return Err(ScheduleFault::NoSuchDesk);
     }
@@ -98,14 +85,6 @@ fn read_merge(fields: &[u8], files: &[Vec<Op>]) -> Result<RunStep, ScheduleFault
     let (desk, from) = two_words(fields).ok_or(ScheduleFault::WrongWords)?;
     let desk = read_count(desk).ok_or(ScheduleFault::BadNumber)?;
     let from = read_count(from).ok_or(ScheduleFault::BadNumber)?;
-    tested_merge(desk, from, files)
-}
-
-/// The step by which a desk takes all that another has, if both are there.
-fn tested_merge(desk: usize, from: usize, files: &[Vec<Op>]) -> Result<RunStep, ScheduleFault>
-    ensures said { result ≡ merge_of (lists_of files.now) (Some desk) (Some from) }
-    ensures there { IfOk result (IsStepOf (lists_of files.now)) }
-{
     if !is_among(desk, files.len()) || !is_among(from, files.len()) {
         return Err(ScheduleFault::NoSuchDesk);
     }
@@ -120,14 +99,6 @@ fn read_show(fields: &[u8], files: &[Vec<Op>]) -> Result<RunStep, ScheduleFault>
 {
     let desk = one_word(fields).ok_or(ScheduleFault::WrongWords)?;
     let desk = read_count(desk).ok_or(ScheduleFault::BadNumber)?;
-    tested_show(desk, files)
-}
-
-/// The step by which a desk is shown, if it is there.
-fn tested_show(desk: usize, files: &[Vec<Op>]) -> Result<RunStep, ScheduleFault>
-    ensures said { result ≡ show_of (lists_of files.now) (Some desk) }
-    ensures there { IfOk result (IsStepOf (lists_of files.now)) }
-{
     if !is_among(desk, files.len()) {
         return Err(ScheduleFault::NoSuchDesk);
     }
