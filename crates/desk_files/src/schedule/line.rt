@@ -26,7 +26,16 @@ pub fn read_step(line: &[u8], files: &[Vec<Op>]) -> Option<Result<RunStep, Sched
     if verb.is_empty() {
         return None;
     }
-    Some(read_verb(verb, fields, files))
+    if verb == b"take".as_slice() {
+        return Some(read_take(fields, files));
+    }
+    if verb == b"merge".as_slice() {
+        return Some(read_merge(fields, files));
+    }
+    if verb == b"show".as_slice() {
+        return Some(read_show(fields, files));
+    }
+    Some(Err(ScheduleFault::UnknownStep))
 }
 
 fn begins_comment(line: &[u8]) -> bool
@@ -36,22 +45,6 @@ fn begins_comment(line: &[u8]) -> bool
         Some(first) => *first == b'#',
         None => false,
     }
-}
-
-fn read_verb(verb: &[u8], fields: &[u8], files: &[Vec<Op>]) -> Result<RunStep, ScheduleFault>
-    ensures said { result ≡ step_in (lists_of files.now) verb.now (words fields.now) }
-    ensures there { IfOk result (IsStepOf (lists_of files.now)) }
-{
-    if verb == b"take".as_slice() {
-        return read_take(fields, files);
-    }
-    if verb == b"merge".as_slice() {
-        return read_merge(fields, files);
-    }
-    if verb == b"show".as_slice() {
-        return read_show(fields, files);
-    }
-    Err(ScheduleFault::UnknownStep)
 }
 
 /// The step that the words after `take` write.
