@@ -13,15 +13,6 @@ pub struct InMemory<'a> {
     bytes: &'a [u8],
 }
 
-impl<'a> InMemory<'a> {
-    /// A source that gives these bytes.
-    pub fn new(bytes: &'a [u8]) -> InMemory<'a>
-        ensures { ⟦<InMemory<'a> as Source>⟧.remaining result ≡ Some bytes.now }
-    {
-        InMemory { bytes }
-    }
-}
-
 impl<'a> Source for InMemory<'a> {
     ghost remaining = { λ m. Some m.bytes.now };
 
@@ -46,7 +37,7 @@ pub fn readers_of<'a>(alloc: Global, files: &'a [Vec<u8>]) -> Result<Vec<InMemor
 {
     let mut readers = Vec::with_capacity(alloc, files.len())?;
     for file in files {
-        readers.push(InMemory::new(file))?;
+        readers.push(InMemory { bytes: file })?;
     }
     Ok(readers)
 }
