@@ -6,7 +6,7 @@ use Rattle.ucd_files.specs.declared.fault.Cause.TheVariants.{BadUtf8}
 use Rattle.ucd_files.specs.declared.fault.UcdFault.{UcdFault}
 use Rattle.ucd_files.specs.declared.fault.UcdFile.TheVariants.{Bidi, Brackets, Mirror, Lb}
 use Rattle.ucd_files.specs.Line.{lines_of}
-use Rattle.ucd_files.specs.Reading.{Reading, line_at, first_faulty, first_fault}
+use Rattle.ucd_files.specs.Reading.{Reading, line_at, line_of, first_faulty, first_fault}
 use Rattle.ucd_files.specs.Files.{bidi_file, brackets_file, mirror_file, lb_file}
 use Rattle.ucd_files.specs.Faults.{fault_in, fault_of}
 
@@ -27,12 +27,12 @@ bad_line bytes = cond (ltb (utf8_valid_len bytes) (length bytes)) (Some (line_at
 pub first_fault-bad : {V : Type 0} (reading : Reading V) (bytes : List ℕ) (line : ℕ) → Some line ≡ bad_line bytes → first_fault reading bytes ≡ Some (line, BadUtf8)
 unfolding first_fault
 first_fault-bad reading bytes line h =
-    at_bad (ltb (utf8_valid_len bytes) (length bytes)) (line_at bytes (utf8_valid_len bytes)) line (first_faulty reading.line (lines_of bytes) 1) h
+    at_bad (ltb (utf8_valid_len bytes) (length bytes)) (line_at bytes (utf8_valid_len bytes)) line (first_faulty (line_of reading) (lines_of bytes) 1) h
 
-pub first_fault-text : {V : Type 0} (reading : Reading V) (bytes : List ℕ) → None ≡ bad_line bytes → first_fault reading bytes ≡ first_faulty reading.line (lines_of bytes) 1
+pub first_fault-text : {V : Type 0} (reading : Reading V) (bytes : List ℕ) → None ≡ bad_line bytes → first_fault reading bytes ≡ first_faulty (line_of reading) (lines_of bytes) 1
 unfolding first_fault
 first_fault-text reading bytes h =
-    at_text (ltb (utf8_valid_len bytes) (length bytes)) (line_at bytes (utf8_valid_len bytes)) (first_faulty reading.line (lines_of bytes) 1) h
+    at_text (ltb (utf8_valid_len bytes) (length bytes)) (line_at bytes (utf8_valid_len bytes)) (first_faulty (line_of reading) (lines_of bytes) 1) h
 
 -- the fourth file's fault, where the three before it have none
 pub fault_of-lb : (bidi brackets mirror lb ea : List ℕ) (fault : UcdFault) → fault_in Bidi bidi_file bidi ≡ None → fault_in Brackets brackets_file brackets ≡ None

@@ -9,7 +9,7 @@ use Rattle.bg_types.specs.declared.class.Ea.TheVariants.{N}
 use Rattle.unicode_tables.specs.declared.bracket.Bracket.{Bracket}
 use Rattle.unicode_tables.specs.declared.bracket.Bracket.TheVariants.{None as no_bracket}
 use Rattle.ucd_files.specs.Reading.{Reading}
-use Rattle.ucd_files.specs.Fields.{line_by, property_fields, bracket_fields, mirror_fields, property_missing}
+use Rattle.ucd_files.specs.Fields.{property_fields, bracket_fields, mirror_fields, property_missing}
 use Rattle.ucd_files.specs.Names.{named}
 use Rattle.ucd_files.specs.BidiNames.{bidi_names, bidi_long_names}
 use Rattle.ucd_files.specs.LbNames.{lb_names, lb_long_names}
@@ -18,7 +18,7 @@ use Rattle.ucd_files.specs.BracketKind.{bracket_kind}
 
 abbrev pub property_file : {V : Type 0} → List (List ℕ × V) → List (List ℕ × V) → V → Reading V
 property_file names long_names absent = record {
-  line = line_by (property_fields (named names));
+  fields = property_fields (named names);
   missing = property_missing (named (names ++ long_names));
   absent = absent;
 }
@@ -37,8 +37,8 @@ ea_file = property_file ea_names ea_long_names N
 
 -- BidiBrackets.txt: such a code point is no bracket. It has no defaults
 unfoldable pub brackets_file : Reading Bracket
-brackets_file = record { line = line_by (bracket_fields bracket_kind); missing = (λ _. None); absent = no_bracket }
+brackets_file = record { fields = bracket_fields bracket_kind; missing = (λ _. None); absent = no_bracket }
 
 -- BidiMirroring.txt: such a code point has no mirror. It has no defaults
 unfoldable pub mirror_file : Reading (Option ℕ)
-mirror_file = record { line = line_by mirror_fields; missing = (λ _. None); absent = None }
+mirror_file = record { fields = mirror_fields; missing = (λ _. None); absent = None }

@@ -2,11 +2,11 @@
 use Rattle.std.specs.Prelude.{ℕ, List, [], ◌∷◌, Option, Some, None, if◌then◌else◌}
 use Rattle.ucd_files.specs.declared.entry.Entry.{Entry}
 use Rattle.ucd_files.specs.Entry.{covers}
-use Rattle.ucd_files.specs.Reading.{Reading, said}
+use Rattle.ucd_files.specs.Reading.{Reading, line_of, said}
 
 -- what a data line says
 abbrev pub data_said : {V : Type 0} → Reading V → List ℕ → Option (Entry V)
-data_said reading line = said (reading.line line)
+data_said reading line = said (line_of reading line)
 
 -- the value at c, after a line
 abbrev pub written : {V : Type 0} → Option (Entry V) → ℕ → V → V

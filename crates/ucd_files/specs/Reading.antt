@@ -7,13 +7,18 @@ use Rattle.ucd_files.specs.declared.fault.Cause.{Cause}
 use Rattle.ucd_files.specs.declared.fault.Cause.TheVariants.{BadUtf8}
 use Rattle.ucd_files.specs.Line.{lines_of}
 use Rattle.ucd_files.specs.Entry.{last_value}
+use Rattle.ucd_files.specs.Fields.{line_by}
 
--- line: what a line says as a data line: of which code points, nothing, or a fault. missing: the default that its comment gives.
--- absent: the value where no line says one
+-- fields: what the text of a line says by its fields: of which code points, or a fault. missing: the default that a line's
+-- comment gives. absent: the value where no line says one
 pub record Reading (V : Type 0) : Type 0 where
-  pub line : List ℕ → Result (Option (Entry V)) Cause
+  pub fields : List ℕ → Result (Entry V) Cause
   pub missing : List ℕ → Option (Entry V)
   pub absent : V
+
+-- what a line says as a data line: nothing, where it has no text
+abbrev pub line_of : {V : Type 0} → Reading V → List ℕ → Result (Option (Entry V)) Cause
+line_of reading = line_by reading.fields
 
 -- what a line says that isn't faulty
 abbrev pub said : {V : Type 0} → Result (Option (Entry V)) Cause → Option (Entry V)
@@ -22,7 +27,7 @@ said (Err cause) = None
 
 -- the data lines, and the defaults
 abbrev pub data_lines : {V : Type 0} → Reading V → List ℕ → List (Entry V)
-data_lines reading bytes = filter_map (λ line. said (reading.line line)) (lines_of bytes)
+data_lines reading bytes = filter_map (λ line. said (line_of reading line)) (lines_of bytes)
 
 abbrev pub missing_lines : {V : Type 0} → Reading V → List ℕ → List (Entry V)
 missing_lines reading bytes = filter_map reading.missing (lines_of bytes)
@@ -49,4 +54,4 @@ line_at bytes at = count_by (λ b. b == 10) (take at bytes) + 1
 unfoldable pub first_fault : {V : Type 0} → Reading V → List ℕ → Option (ℕ × Cause)
 first_fault reading bytes =
     if nat_lt (utf8_valid_len bytes) (length bytes) then Some (line_at bytes (utf8_valid_len bytes), BadUtf8)
-    else first_faulty reading.line (lines_of bytes) 1
+    else first_faulty (line_of reading) (lines_of bytes) 1

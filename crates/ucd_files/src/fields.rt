@@ -3,12 +3,12 @@
 ghost use Rattle.std.specs.Prelude.{◌≡◌, ◌++◌};
 ghost use Rattle.ucd_files.specs.Names.{named, name_table};
 ghost use Rattle.ucd_files.specs.BracketKind.{bracket_kind};
-ghost use Rattle.ucd_files.specs.Fields.{entry_with, line_by, property_fields, bracket_fields, mirror_fields, missing_fields, property_missing};
+ghost use Rattle.ucd_files.specs.Fields.{entry_with, property_fields, bracket_fields, mirror_fields, missing_fields, property_missing};
 
 use crate::code::{code, has_dots, range, scalar};
 use crate::entry::Entry;
 use crate::fault::Cause;
-use crate::line::{comment_of, has_two_fields, next_field, text_of};
+use crate::line::{comment_of, has_two_fields, next_field};
 use crate::names::value_named;
 use unicode_tables::Bracket;
 
@@ -23,7 +23,7 @@ fn entry<V: Copy>(codes: &[u8], value: Option<V>) -> Result<Entry<V>, Cause>
 
 /// The fields of bidi, lb and ea.
 #[tactic(auto, unfolding(crate::specs::Fields::property_fields))]
-fn property_fields<V: Copy>(names: &[(&[u8], V)], text: &[u8]) -> Result<Entry<V>, Cause>
+pub(crate) fn property_fields<V: Copy>(names: &[(&[u8], V)], text: &[u8]) -> Result<Entry<V>, Cause>
     ensures { result ≡ property_fields (named (name_table names.now)) text.now }
 {
     let (codes, rest) = next_field(text);
@@ -32,20 +32,6 @@ fn property_fields<V: Copy>(names: &[(&[u8], V)], text: &[u8]) -> Result<Entry<V
         return Err(Cause::MissingField);
     }
     entry(codes, value_named(names, name))
-}
-
-/// A line of bidi, lb or ea.
-pub(crate) fn property_line<V: Copy>(
-    names: &[(&[u8], V)],
-    line: &[u8],
-) -> Result<Option<Entry<V>>, Cause>
-    ensures { result ≡ line_by (property_fields (named (name_table names.now))) line.now }
-{
-    let text = text_of(line);
-    if text.is_empty() {
-        return Ok(None);
-    }
-    Ok(Some(property_fields(names, text)?))
 }
 
 /// The fields of an `@missing` line.
@@ -95,7 +81,7 @@ fn bracket_kind(kind: &[u8], paired: char) -> Option<Bracket>
 
 /// The fields of brackets.
 #[tactic(auto, unfolding(crate::specs::Fields::bracket_fields))]
-fn bracket_fields(text: &[u8]) -> Result<Entry<Bracket>, Cause>
+pub(crate) fn bracket_fields(text: &[u8]) -> Result<Entry<Bracket>, Cause>
     ensures { result ≡ bracket_fields bracket_kind text.now }
 {
     let (own, rest) = next_field(text);
@@ -114,20 +100,9 @@ fn bracket_fields(text: &[u8]) -> Result<Entry<Bracket>, Cause>
     })
 }
 
-/// A line of brackets.
-pub(crate) fn bracket_line(line: &[u8]) -> Result<Option<Entry<Bracket>>, Cause>
-    ensures { result ≡ line_by (bracket_fields bracket_kind) line.now }
-{
-    let text = text_of(line);
-    if text.is_empty() {
-        return Ok(None);
-    }
-    Ok(Some(bracket_fields(text)?))
-}
-
 /// The fields of mirror.
 #[tactic(auto, unfolding(crate::specs::Fields::mirror_fields))]
-fn mirror_fields(text: &[u8]) -> Result<Entry<Option<char>>, Cause>
+pub(crate) fn mirror_fields(text: &[u8]) -> Result<Entry<Option<char>>, Cause>
     ensures { result ≡ mirror_fields text.now }
 {
     let (own, rest) = next_field(text);
@@ -142,15 +117,4 @@ fn mirror_fields(text: &[u8]) -> Result<Entry<Option<char>>, Cause>
         last: own,
         value: Some(mirrored),
     })
-}
-
-/// A line of mirror.
-pub(crate) fn mirror_line(line: &[u8]) -> Result<Option<Entry<Option<char>>>, Cause>
-    ensures { result ≡ line_by mirror_fields line.now }
-{
-    let text = text_of(line);
-    if text.is_empty() {
-        return Ok(None);
-    }
-    Ok(Some(mirror_fields(text)?))
 }

@@ -3,13 +3,13 @@
 ghost use Rattle.std.specs.Prelude.{◌≡◌, ◌≢◌, ◌<◌, ℕ, length, Some, None, nat_lt, if◌then◌else◌, IfOk, IfErr, OnOk, slice_index_or};
 ghost use Rattle.std.specs.Str.Lossy.{utf8_valid_len};
 ghost use Rattle.ucd_files.specs.Line.{lines_of};
-ghost use Rattle.ucd_files.specs.Reading.{Reading, value_at, line_at, first_faulty};
+ghost use Rattle.ucd_files.specs.Reading.{Reading, value_at, line_at, line_of, first_faulty};
 ghost use Rattle.ucd_files.specs.Faults.{fault_at, fault_in};
 ghost use Rattle.ucd_files.specs.Passes.{data_said, overlaid};
 
 use crate::entry::Entry;
 use crate::fault::{Cause, UcdFault, UcdFile};
-use crate::line::number_of;
+use crate::line::{number_of, text_of};
 use crate::lines::Lines;
 use bg_types::Memory;
 use std::alloc::Global;
@@ -24,9 +24,9 @@ pub(crate) trait FileValue: Copy {
     fn absent() -> Self
         ensures { result ≡ reading.absent };
 
-    /// What a line says.
-    fn line(line: &[u8]) -> Result<Option<Entry<Self>>, Cause>
-        ensures { result ≡ reading.line line.now };
+    /// What the text of a line says, by its fields.
+    fn fields(text: &[u8]) -> Result<Entry<Self>, Cause>
+        ensures { result ≡ reading.fields text.now };
 
     /// The default that a line's comment gives.
     fn missing(line: &[u8]) -> Option<Entry<Self>>
@@ -57,22 +57,33 @@ fn set_defaults<V: FileValue>(values: &mut Property<V>, bytes: &[u8]) -> Result<
     Ok(())
 }
 
+/// What a line says: nothing, where it has no text.
+fn line_of<V: FileValue>(line: &[u8]) -> Result<Option<Entry<V>>, Cause>
+    ensures { result ≡ line_of V.reading line.now }
+{
+    let text = text_of(line);
+    if text.is_empty() {
+        return Ok(None);
+    }
+    Ok(Some(V::fields(text)?))
+}
+
 /// Sets what the data lines say, the later ones over the earlier ones, up to the first faulty line.
 fn set_data<V: FileValue>(
     file: UcdFile,
     values: &mut Property<V>,
     bytes: &[u8],
 ) -> Result<(), UcdFault>
-    ensures sound { OnOk result (first_faulty V.reading.line (lines_of bytes.now) 1 ≡ None) }
+    ensures sound { OnOk result (first_faulty (line_of V.reading) (lines_of bytes.now) 1 ≡ None) }
     ensures values { OnOk result ((c : ℕ) (d : V) → c < 0x110000 → slice_index_or values.new c d
         ≡ overlaid (data_said V.reading) (lines_of bytes.now) c (slice_index_or values.old c d)) }
     ensures fault { IfErr result (λ e. e ≢ UcdFault.Memory
-        → fault_at file (first_faulty V.reading.line (lines_of bytes.now) 1) ≡ Some e) }
+        → fault_at file (first_faulty (line_of V.reading) (lines_of bytes.now) 1) ≡ Some e) }
 {
     let mut number = 0;
     for line in Lines::of(bytes) {
         number += 1;
-        let said = match V::line(line) {
+        let said = match line_of::<V>(line) {
             Ok(said) => said,
             Err(cause) => {
                 return Err(UcdFault::At {

@@ -2,7 +2,7 @@
 
 use crate::entry::Entry;
 use crate::fault::Cause;
-use crate::fields::{bracket_line, mirror_line, property_line, property_missing};
+use crate::fields::{bracket_fields, mirror_fields, property_fields, property_missing};
 use crate::names::{BIDI_LONG_NAMES, BIDI_NAMES, EA_LONG_NAMES, EA_NAMES, LB_LONG_NAMES, LB_NAMES};
 use crate::read::FileValue;
 use bg_types::{Bidi, Ea, Lb};
@@ -18,8 +18,8 @@ impl FileValue for Bidi {
         Bidi::L
     }
 
-    fn line(line: &[u8]) -> Result<Option<Entry<Bidi>>, Cause> {
-        property_line(BIDI_NAMES, line)
+    fn fields(text: &[u8]) -> Result<Entry<Bidi>, Cause> {
+        property_fields(BIDI_NAMES, text)
     }
 
     fn missing(line: &[u8]) -> Option<Entry<Bidi>> {
@@ -37,8 +37,8 @@ impl FileValue for Bracket {
         Bracket::None
     }
 
-    fn line(line: &[u8]) -> Result<Option<Entry<Bracket>>, Cause> {
-        bracket_line(line)
+    fn fields(text: &[u8]) -> Result<Entry<Bracket>, Cause> {
+        bracket_fields(text)
     }
 
     fn missing(_line: &[u8]) -> Option<Entry<Bracket>> {
@@ -56,8 +56,8 @@ impl FileValue for Option<char> {
         None
     }
 
-    fn line(line: &[u8]) -> Result<Option<Entry<Option<char>>>, Cause> {
-        mirror_line(line)
+    fn fields(text: &[u8]) -> Result<Entry<Option<char>>, Cause> {
+        mirror_fields(text)
     }
 
     fn missing(_line: &[u8]) -> Option<Entry<Option<char>>> {
@@ -75,8 +75,8 @@ impl FileValue for Lb {
         Lb::Xx
     }
 
-    fn line(line: &[u8]) -> Result<Option<Entry<Lb>>, Cause> {
-        property_line(LB_NAMES, line)
+    fn fields(text: &[u8]) -> Result<Entry<Lb>, Cause> {
+        property_fields(LB_NAMES, text)
     }
 
     fn missing(line: &[u8]) -> Option<Entry<Lb>> {
@@ -94,8 +94,8 @@ impl FileValue for Ea {
         Ea::N
     }
 
-    fn line(line: &[u8]) -> Result<Option<Entry<Ea>>, Cause> {
-        property_line(EA_NAMES, line)
+    fn fields(text: &[u8]) -> Result<Entry<Ea>, Cause> {
+        property_fields(EA_NAMES, text)
     }
 
     fn missing(line: &[u8]) -> Option<Entry<Ea>> {
