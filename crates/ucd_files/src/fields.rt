@@ -3,9 +3,9 @@
 ghost use Rattle.std.specs.Prelude.{◌≡◌, ◌++◌};
 ghost use Rattle.ucd_files.specs.Names.{named, name_table};
 ghost use Rattle.ucd_files.specs.BracketKind.{bracket_kind};
-ghost use Rattle.ucd_files.specs.Fields.{entry_with, property_fields, bracket_fields, mirror_fields, missing_fields, property_missing};
+ghost use Rattle.ucd_files.specs.Fields.{entry_with, property_fields, missing_fields, property_missing};
 
-use crate::code::{code, has_dots, range, scalar};
+use crate::code::{has_dots, range};
 use crate::entry::Entry;
 use crate::fault::Cause;
 use crate::line::{comment_of, has_two_fields, next_field};
@@ -67,7 +67,7 @@ pub(crate) fn property_missing<V: Copy>(
 
 /// The third field of brackets, with the paired character.
 #[tactic(auto, unfolding(crate::specs::BracketKind::bracket_kind))]
-fn bracket_kind(kind: &[u8], paired: char) -> Option<Bracket>
+pub(crate) fn bracket_kind(kind: &[u8], paired: char) -> Option<Bracket>
     ensures { result ≡ bracket_kind kind.now paired }
 {
     if kind == b"o".as_slice() {
@@ -77,44 +77,4 @@ fn bracket_kind(kind: &[u8], paired: char) -> Option<Bracket>
         return Some(Bracket::Close(paired));
     }
     None
-}
-
-/// The fields of brackets.
-#[tactic(auto, unfolding(crate::specs::Fields::bracket_fields))]
-pub(crate) fn bracket_fields(text: &[u8]) -> Result<Entry<Bracket>, Cause>
-    ensures { result ≡ bracket_fields bracket_kind text.now }
-{
-    let (own, rest) = next_field(text);
-    let (paired, rest) = next_field(rest);
-    let (kind, _) = next_field(rest);
-    if own.is_empty() || paired.is_empty() || kind.is_empty() {
-        return Err(Cause::MissingField);
-    }
-    let own = code(own).ok_or(Cause::BadCode)?;
-    let paired = scalar(paired).ok_or(Cause::BadCode)?;
-    let value = bracket_kind(kind, paired).ok_or(Cause::UnknownValue)?;
-    Ok(Entry {
-        first: own,
-        last: own,
-        value,
-    })
-}
-
-/// The fields of mirror.
-#[tactic(auto, unfolding(crate::specs::Fields::mirror_fields))]
-pub(crate) fn mirror_fields(text: &[u8]) -> Result<Entry<Option<char>>, Cause>
-    ensures { result ≡ mirror_fields text.now }
-{
-    let (own, rest) = next_field(text);
-    let (mirrored, _) = next_field(rest);
-    if own.is_empty() || mirrored.is_empty() {
-        return Err(Cause::MissingField);
-    }
-    let own = code(own).ok_or(Cause::BadCode)?;
-    let mirrored = scalar(mirrored).ok_or(Cause::BadCode)?;
-    Ok(Entry {
-        first: own,
-        last: own,
-        value: Some(mirrored),
-    })
 }

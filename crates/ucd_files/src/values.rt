@@ -1,8 +1,10 @@
 //! How each of the five files is read.
 
+use crate::code::{code, scalar};
 use crate::entry::Entry;
 use crate::fault::Cause;
-use crate::fields::{bracket_fields, mirror_fields, property_fields, property_missing};
+use crate::fields::{bracket_kind, property_fields, property_missing};
+use crate::line::next_field;
 use crate::names::{BIDI_LONG_NAMES, BIDI_NAMES, EA_LONG_NAMES, EA_NAMES, LB_LONG_NAMES, LB_NAMES};
 use crate::read::FileValue;
 use bg_types::{Bidi, Ea, Lb};
@@ -27,7 +29,7 @@ impl FileValue for Bidi {
     }
 }
 
-#[tactic(auto, unfolding(crate::specs::Files::brackets_file))]
+#[tactic(auto, unfolding(crate::specs::Files::brackets_file, crate::specs::Fields::bracket_fields))]
 impl FileValue for Bracket {
     ghost use Rattle.ucd_files.specs.Files.{brackets_file};
 
@@ -38,7 +40,20 @@ impl FileValue for Bracket {
     }
 
     fn fields(text: &[u8]) -> Result<Entry<Bracket>, Cause> {
-        bracket_fields(text)
+        let (own, rest) = next_field(text);
+        let (paired, rest) = next_field(rest);
+        let (kind, _) = next_field(rest);
+        if own.is_empty() || paired.is_empty() || kind.is_empty() {
+            return Err(Cause::MissingField);
+        }
+        let own = code(own).ok_or(Cause::BadCode)?;
+        let paired = scalar(paired).ok_or(Cause::BadCode)?;
+        let value = bracket_kind(kind, paired).ok_or(Cause::UnknownValue)?;
+        Ok(Entry {
+            first: own,
+            last: own,
+            value,
+        })
     }
 
     fn missing(_line: &[u8]) -> Option<Entry<Bracket>> {
@@ -46,7 +61,7 @@ impl FileValue for Bracket {
     }
 }
 
-#[tactic(auto, unfolding(crate::specs::Files::mirror_file))]
+#[tactic(auto, unfolding(crate::specs::Files::mirror_file, crate::specs::Fields::mirror_fields))]
 impl FileValue for Option<char> {
     ghost use Rattle.ucd_files.specs.Files.{mirror_file};
 
@@ -57,7 +72,18 @@ impl FileValue for Option<char> {
     }
 
     fn fields(text: &[u8]) -> Result<Entry<Option<char>>, Cause> {
-        mirror_fields(text)
+        let (own, rest) = next_field(text);
+        let (mirrored, _) = next_field(rest);
+        if own.is_empty() || mirrored.is_empty() {
+            return Err(Cause::MissingField);
+        }
+        let own = code(own).ok_or(Cause::BadCode)?;
+        let mirrored = scalar(mirrored).ok_or(Cause::BadCode)?;
+        Ok(Entry {
+            first: own,
+            last: own,
+            value: Some(mirrored),
+        })
     }
 
     fn missing(_line: &[u8]) -> Option<Entry<Option<char>>> {
