@@ -3,7 +3,7 @@
 ghost use Rattle.std.specs.Prelude.{◌≡◌, ◌++◌};
 ghost use Rattle.ucd_files.specs.Names.{named, name_table};
 ghost use Rattle.ucd_files.specs.BracketKind.{bracket_kind};
-ghost use Rattle.ucd_files.specs.Fields.{entry_with, property_fields, missing_fields, property_missing};
+ghost use Rattle.ucd_files.specs.Fields.{entry_with, property_fields, property_missing};
 
 use crate::code::{has_dots, range};
 use crate::entry::Entry;
@@ -34,26 +34,8 @@ pub(crate) fn property_fields<V: Copy>(names: &[(&[u8], V)], text: &[u8]) -> Res
     entry(codes, value_named(names, name))
 }
 
-/// The fields of an `@missing` line.
-#[tactic(auto, using(crate::proofs::Named::named_append), unfolding(crate::specs::Fields::missing_fields))]
-fn missing_fields<V: Copy>(
-    names: &[(&[u8], V)],
-    long_names: &[(&[u8], V)],
-    text: &[u8],
-) -> Option<Entry<V>>
-    ensures { result ≡ missing_fields (named (name_table names.now ++ name_table long_names.now)) text.now }
-{
-    let (codes, rest) = next_field(text);
-    let (name, _) = next_field(rest);
-    if !has_two_fields(text) || !has_dots(codes) {
-        return None;
-    }
-    let value = value_named(names, name).or(value_named(long_names, name));
-    entry(codes, value).ok()
-}
-
 /// The default that the comment of a line of bidi, lb or ea gives.
-#[tactic(auto, unfolding(crate::specs::Fields::property_missing))]
+#[tactic(auto, using(crate::proofs::Named::named_append), unfolding(crate::specs::Fields::property_missing, crate::specs::Fields::missing_fields))]
 pub(crate) fn property_missing<V: Copy>(
     names: &[(&[u8], V)],
     long_names: &[(&[u8], V)],
@@ -61,8 +43,14 @@ pub(crate) fn property_missing<V: Copy>(
 ) -> Option<Entry<V>>
     ensures { result ≡ property_missing (named (name_table names.now ++ name_table long_names.now)) line.now }
 {
-    let comment = comment_of(line);
-    missing_fields(names, long_names, comment.strip_prefix(b"@missing:")?)
+    let text = comment_of(line).strip_prefix(b"@missing:")?;
+    let (codes, rest) = next_field(text);
+    let (name, _) = next_field(rest);
+    if !has_two_fields(text) || !has_dots(codes) {
+        return None;
+    }
+    let value = value_named(names, name).or(value_named(long_names, name));
+    entry(codes, value).ok()
 }
 
 /// The third field of brackets, with the paired character.
