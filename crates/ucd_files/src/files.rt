@@ -5,8 +5,9 @@ ghost use Rattle.ucd_files.specs.Ucd.{tables_of_ucd, fault_of_ucd};
 
 use crate::fault::{UcdFault, UcdFile};
 use crate::read::read;
+use bg_types::{Bidi, Ea, Lb};
 use std::alloc::Global;
-use unicode_tables::Tables;
+use unicode_tables::{Bracket, Tables};
 
 /// The bytes of the five data files, and how wide ambiguous characters are.
 #[derive(Clone, Copy, Debug)]
@@ -29,6 +30,7 @@ impl Ucd<'_> {
     /// Reads the files, and sets the choice of width. The fault is the first of the first faulty
     /// file, in the order of the fields.
     /// Cost: O(n), a step for each block of 256 code points that a line covers; memory for the words of each block.
+    #[tactic(auto, unfolding(crate::specs::Files::bidi_file, crate::specs::Files::brackets_file, crate::specs::Files::mirror_file, crate::specs::Files::lb_file, crate::specs::Files::ea_file))]
     pub fn load(&self, alloc: Global) -> Result<Tables, UcdFault>
         ensures ok { IfOk result (λ tables. tables ≡ tables_of_ucd self.now) }
 
@@ -36,11 +38,11 @@ impl Ucd<'_> {
         ensures sound { OnOk result (fault_of_ucd self.now ≡ None) }
         ensures fault { IfErr result (λ e. e ≢ UcdFault.Memory → fault_of_ucd self.now ≡ Some e) }
     {
-        let bidi = read(alloc, UcdFile::Bidi, self.bidi)?;
-        let brackets = read(alloc, UcdFile::Brackets, self.brackets)?;
-        let mirror = read(alloc, UcdFile::Mirror, self.mirror)?;
-        let lb = read(alloc, UcdFile::Lb, self.lb)?;
-        let ea = read(alloc, UcdFile::Ea, self.ea)?;
+        let bidi = read(alloc, UcdFile::Bidi, Bidi::L, self.bidi)?;
+        let brackets = read(alloc, UcdFile::Brackets, Bracket::None, self.brackets)?;
+        let mirror = read(alloc, UcdFile::Mirror, None, self.mirror)?;
+        let lb = read(alloc, UcdFile::Lb, Lb::Xx, self.lb)?;
+        let ea = read(alloc, UcdFile::Ea, Ea::N, self.ea)?;
         let tables = Tables::new(alloc, bidi, brackets, mirror, lb, ea)?;
         Ok(tables.with_wide_ambiguous(self.wide_ambiguous))
     }

@@ -20,10 +20,6 @@ pub(crate) trait FileValue: Copy {
     /// How the file's lines are read.
     ghost reading: { Reading Self };
 
-    /// The value of a code point that no line names.
-    fn absent() -> Self
-        ensures { result ≡ reading.absent };
-
     /// What the text of a line says, by its fields.
     fn fields(text: &[u8]) -> Result<Entry<Self>, Cause>
         ensures { result ≡ reading.fields text.now };
@@ -100,12 +96,14 @@ fn set_data<V: FileValue>(
     Ok(())
 }
 
-/// The values that a file gives to all code points.
+/// The values that a file gives to all code points, where those that no line names have a value of their own.
 pub(crate) fn read<V: FileValue>(
     alloc: Global,
     file: UcdFile,
+    absent: V,
     bytes: &[u8],
 ) -> Result<Property<V>, UcdFault>
+    requires { absent ≡ V.reading.absent }
     ensures sound { OnOk result (fault_in file V.reading bytes.now ≡ None) }
     ensures values { IfOk result (λ values. (c : ℕ) → c < 0x110000
         → slice_index_or values c V.reading.absent ≡ value_at V.reading bytes.now c) }
@@ -119,7 +117,7 @@ pub(crate) fn read<V: FileValue>(
             cause: Cause::BadUtf8,
         });
     }
-    let mut values = Property::of(alloc, V::absent())?;
+    let mut values = Property::of(alloc, absent)?;
     set_defaults(&mut values, bytes)?;
     set_data(file, &mut values, bytes)?;
     Ok(values)

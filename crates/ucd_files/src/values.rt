@@ -16,10 +16,6 @@ impl FileValue for Bidi {
 
     ghost reading = { bidi_file };
 
-    fn absent() -> Bidi {
-        Bidi::L
-    }
-
     fn fields(text: &[u8]) -> Result<Entry<Bidi>, Cause> {
         property_fields(BIDI_NAMES, text)
     }
@@ -34,10 +30,6 @@ impl FileValue for Bracket {
     ghost use Rattle.ucd_files.specs.Files.{brackets_file};
 
     ghost reading = { brackets_file };
-
-    fn absent() -> Bracket {
-        Bracket::None
-    }
 
     fn fields(text: &[u8]) -> Result<Entry<Bracket>, Cause> {
         let (own, rest) = next_field(text);
@@ -67,10 +59,6 @@ impl FileValue for Option<char> {
 
     ghost reading = { mirror_file };
 
-    fn absent() -> Option<char> {
-        None
-    }
-
     fn fields(text: &[u8]) -> Result<Entry<Option<char>>, Cause> {
         let (own, rest) = next_field(text);
         let (mirrored, _) = next_field(rest);
@@ -97,10 +85,6 @@ impl FileValue for Lb {
 
     ghost reading = { lb_file };
 
-    fn absent() -> Lb {
-        Lb::Xx
-    }
-
     fn fields(text: &[u8]) -> Result<Entry<Lb>, Cause> {
         property_fields(LB_NAMES, text)
     }
@@ -115,10 +99,6 @@ impl FileValue for Ea {
     ghost use Rattle.ucd_files.specs.Files.{ea_file};
 
     ghost reading = { ea_file };
-
-    fn absent() -> Ea {
-        Ea::N
-    }
 
     fn fields(text: &[u8]) -> Result<Entry<Ea>, Cause> {
         property_fields(EA_NAMES, text)

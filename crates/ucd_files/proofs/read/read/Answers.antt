@@ -31,5 +31,5 @@ returns-clause-values g c = λ k h.
     c.in_ok-set_data.ensures.values k reading.absent h
     ∙ ap (overlaid (data_said reading) lines k) (c.in_ok-set_defaults.ensures k reading.absent h
     ∙ ap (overlaid reading.missing lines k) (ap (λ values. get_or values k reading.absent) c.in_ok-values.ensures
-    ∙ each_below-at 0x110000 (λ _. c.absent.result) k reading.absent h ∙ c.absent.ensures))
+    ∙ each_below-at 0x110000 (λ _. c.args.absent) k reading.absent h ∙ c.requires))
     ∙ value_at-passes reading c.args.bytes.now k
