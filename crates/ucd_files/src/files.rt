@@ -10,7 +10,7 @@ use std::alloc::Global;
 use unicode_tables::{Bracket, Tables};
 
 /// The bytes of the five data files, and how wide ambiguous characters are.
-#[derive(Clone, Copy, Debug)]
+#[derive(Clone, Copy)]
 pub struct Ucd<'a> {
     /// DerivedBidiClass.txt.
     pub bidi: &'a [u8],
