@@ -1,9 +1,8 @@
 //! The values of one file.
 
-ghost use Rattle.std.specs.Prelude.{◌≡◌, ◌≢◌, ◌<◌, ℕ, length, Some, None, nat_lt, if◌then◌else◌, IfOk, IfErr, OnOk, slice_index_or};
-ghost use Rattle.std.specs.Str.Lossy.{utf8_valid_len};
+ghost use Rattle.std.specs.Prelude.{◌≡◌, ◌≢◌, ◌<◌, ℕ, Some, None, IfOk, IfErr, OnOk, slice_index_or};
 ghost use Rattle.ucd_files.specs.Line.{lines_of};
-ghost use Rattle.ucd_files.specs.Reading.{Reading, value_at, line_at, line_of, first_faulty};
+ghost use Rattle.ucd_files.specs.Reading.{Reading, value_at, line_of, first_faulty};
 ghost use Rattle.ucd_files.specs.Faults.{fault_at, fault_in};
 ghost use Rattle.ucd_files.specs.Passes.{data_said, overlaid};
 
@@ -27,17 +26,6 @@ pub(crate) trait FileValue: Copy {
     /// The default that a line's comment gives.
     fn missing(line: &[u8]) -> Option<Entry<Self>>
         ensures { result ≡ reading.missing line.now };
-}
-
-/// The line of the first byte that isn't UTF-8.
-fn bad_byte_line(bytes: &[u8]) -> Option<usize>
-    ensures { result ≡ (if nat_lt (utf8_valid_len bytes.now) (length bytes.now)
-        then Some (line_at bytes.now (utf8_valid_len bytes.now)) else None) }
-{
-    match std::str::from_utf8(bytes) {
-        Ok(_) => None,
-        Err(error) => Some(number_of(&bytes[..error.valid_up_to()], b'\n') + 1),
-    }
 }
 
 /// Sets the defaults that the lines' comments give, the later ones over the earlier ones.
@@ -110,10 +98,10 @@ pub(crate) fn read<V: FileValue>(
     ensures fault { IfErr result (λ e. e ≢ UcdFault.Memory
         → fault_in file V.reading bytes.now ≡ Some e) }
 {
-    if let Some(line) = bad_byte_line(bytes) {
+    if let Err(error) = std::str::from_utf8(bytes) {
         return Err(UcdFault::At {
             file,
-            line,
+            line: number_of(&bytes[..error.valid_up_to()], b'\n') + 1,
             cause: Cause::BadUtf8,
         });
     }
