@@ -1,12 +1,10 @@
 //! Laws of the definitions: each function's contract is the law, and its body is empty.
 
-ghost use Rattle.std.specs.Prelude.{◌≡◌, ◌++◌, ◌∷◌, ℕ, List, [], true, false, take, drop, fold, codes};
+ghost use Rattle.std.specs.Prelude.{◌≡◌, ◌++◌, ℕ, List, take, drop, fold};
 ghost use Rattle.bg_types.specs.Identifier.{Identifier};
 ghost use Rattle.bg_types.specs.OperationSet.{OperationSet};
 ghost use Rattle.bg_types.specs.declared.op.Place.{Place};
-ghost use Rattle.bg_types.specs.declared.op.Place.TheVariants.{Root, After};
 ghost use Rattle.rga_tree.specs.Elements.{with_element};
-ghost use Rattle.rga_tree.specs.Examples.{stamp};
 ghost use Rattle.rga_tree.specs.Run.{insertions, with_operations};
 ghost use Rattle.rga_runs.specs.Typed.{later, parent_at, typed, bits_from};
 
@@ -21,13 +19,4 @@ pub fn parting()
 pub fn runs()
     ensures { (s : OperationSet) (id : Identifier) (parent : Place) (chs : List ℕ)
         → fold with_element s (typed id parent 0 chs) ≡ with_operations s (insertions id parent chs) }
-{}
-
-/// The elements of "ab", typed by site 1 on an empty text, and of "y", typed by site 2 behind (2,2) and erased.
-pub fn examples()
-    ensures two { typed (stamp 1 1) Root 0 (codes "ab")
-        ≡ record { id = stamp 1 1; parent = Root; ch = 97; hidden = false }
-        ∷ record { id = stamp 2 1; parent = After (stamp 1 1); ch = 98; hidden = false } ∷ [] }
-    ensures one { typed (stamp 3 2) (After (stamp 2 2)) 1 (codes "y")
-        ≡ record { id = stamp 3 2; parent = After (stamp 2 2); ch = 121; hidden = true } ∷ [] }
 {}
