@@ -1,7 +1,8 @@
 -- The stretches and the numbers of blocks.
 use Rattle.std.proofs.Common.{◌≡◌, ℕ, zero, suc, ◌<◌, ◌≤◌, ◌*◌, List, [], ◌∷◌, ◌++◌, length, take, drop, get_or, refl, sym, ap, ◌∙◌, length-append, arith}
-use Rattle.std.specs.Prelude.{insert, set}
-use Rattle.std.proofs.lemmas.List.{length-map, get_or-map, drop-map, map-append, take-map}
+use Rattle.std.specs.Prelude.{insert, set, vec_len}
+use Rattle.std.proofs.lemmas.List.{length-map, get_or-map, drop-map, map-append, map-set, take-map}
+use Rattle.rga_runs.specs.declared.stretch.Stretch.{Stretch}
 use Rattle.rga_runs.specs.declared.block.Block.{Block}
 use Rattle.rga_runs.specs.Blocks.{row_of}
 use Rattle.rga_runs.specs.BlockRows.{items_of, numbers_of}
@@ -22,16 +23,26 @@ items_there bs p b there = get_or-map (λ (b : Block). b.stretches.items) bs p b
 pub items_at : (bs : List Block) (p : ℕ) (b : Block) → p < length bs → b ≡ get_or bs p b → get_or (items_of bs) p [] ≡ b.stretches.items
 items_at bs p b there is = items_there bs p b there ∙ ap (λ (b : Block). b.stretches.items) (sym is)
 
+-- how many it has
+pub items_len : (bs : List Block) (p : ℕ) (b : Block) → p < length bs → b ≡ get_or bs p b → vec_len b.stretches ≡ length (get_or (items_of bs) p [])
+items_len bs p b there is = omega (arith, b.stretches.ok, ap length (items_at bs p b there is))
+
+-- a block whose stretches were changed
+pub items-set : (bs : List Block) (q : ℕ) (old new : Block) (F : List Stretch → List Stretch) → q < length bs → old ≡ get_or bs q old → new.stretches.items ≡ F old.stretches.items
+    → items_of (set bs q new) ≡ set (items_of bs) q (F (get_or (items_of bs) q []))
+items-set bs q old new F there is changed =
+    map-set (λ (b : Block). b.stretches.items) bs q new ∙ ap (set (items_of bs) q) (changed ∙ ap F (sym (items_at bs q old there is)))
+
 pub items-insert : (bs : List Block) (i : ℕ) (b : Block) → items_of (insert bs i b) ≡ insert (items_of bs) i b.stretches.items
 items-insert bs i b =
     map-append (λ (b : Block). b.stretches.items) (take i bs) (b ∷ drop i bs)
     ∙ (λ j. sym (take-map (λ (b : Block). b.stretches.items) i bs) j ++ b.stretches.items ∷ sym (drop-map (λ (b : Block). b.stretches.items) i bs) j)
 
 -- a block that keeps its number
-pub numbers-set : (bs : List Block) (q : ℕ) (d new : Block) → q < length bs → new.number ≡ (get_or bs q d).number → numbers_of (set bs q new) ≡ numbers_of bs
-numbers-set [] q d new there same = absurd (omega arith)
-numbers-set (b ∷ bs) zero d new there same = ap (λ n. n ∷ numbers_of bs) same
-numbers-set (b ∷ bs) (suc q) d new there same = ap (λ ns. b.number ∷ ns) (numbers-set bs q d new (omega arith) same)
+pub numbers-set : (bs : List Block) (q : ℕ) (old new : Block) → q < length bs → old ≡ get_or bs q old → new.number ≡ old.number → numbers_of (set bs q new) ≡ numbers_of bs
+numbers-set [] q old new there is same = absurd (omega arith)
+numbers-set (b ∷ bs) zero old new there is same = ap (λ n. n ∷ numbers_of bs) (same ∙ ap (λ (z : Block). z.number) is)
+numbers-set (b ∷ bs) (suc q) old new there is same = ap (λ ns. b.number ∷ ns) (numbers-set bs q old new (omega arith) is same)
 
 pub numbers-insert : (bs : List Block) (i : ℕ) (b : Block) → numbers_of (insert bs i b) ≡ insert (numbers_of bs) i b.number
 numbers-insert bs i b =

@@ -12,7 +12,6 @@ pub mod laws;
 mod leaf;
 mod leaves;
 mod marks;
-mod order;
 mod parent;
 mod rank;
 mod read;

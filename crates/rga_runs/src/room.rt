@@ -12,9 +12,8 @@ ghost use Rattle.rga_runs.specs.Indexed.{stretches_in, stretches_for, IsHome, Ar
 use crate::block::{Block, Spare};
 use crate::bounds::{self, NEIGHBOURS};
 use crate::counts;
-use crate::cut::{FULL, kept_of, missing};
+use crate::cut::{BEYOND, FULL, kept_of, missing};
 use crate::keys::{self, Keys};
-use crate::order::{len_of, split_at};
 use crate::row::Row;
 use crate::stretch::Stretch;
 use bg_types::Memory;
@@ -40,7 +39,7 @@ pub fn make_room(row: &mut Row, q: usize, at: usize) -> (usize, usize)
     ensures indexed { IsIndexed row.new }
     ensures room { (n : ℕ) → HasRoom row.old (n + 1) → HasPlace row.new n }
 {
-    if len_of(&row.blocks, q) < FULL {
+    if row.blocks[q].stretches.len() < FULL {
         return (q, at);
     }
     let cut = kept_of(q, row.blocks.len(), at);
@@ -80,6 +79,26 @@ fn split(row: &mut Row, q: usize, cut: usize)
     bounds::renew(&mut row.bounds, &row.blocks, from);
     counts::move_on(&mut row.sums, &row.blocks, q);
     counts::add(&mut row.sums, &row.blocks);
+}
+
+/// Splits block q, which is full, into two, of which the first keeps `cut` stretches. The second is the block behind it, and has
+/// this number.
+fn split_at(blocks: &mut Vec<Block>, q: usize, cut: usize, lower: Vec<Stretch>, number: usize)
+    requires block { q < vec_len blocks.old }
+    requires full { length (get_or (items_of blocks.old.items) q []) ≡ 256 }
+    requires some { 0 < cut }
+    requires most { cut < 256 }
+    requires empty { lower.items ≡ [] }
+    requires memory { 256 ≤ vec_capacity lower }
+    requires room { vec_len blocks.old < vec_capacity blocks.old }
+    ensures items { let x = get_or (items_of blocks.old.items) q [] in
+        items_of blocks.new.items ≡ insert (slice_set (items_of blocks.old.items) q (take cut x)) (q + 1) (drop cut x) }
+    ensures numbers { numbers_of blocks.new.items ≡ insert (numbers_of blocks.old.items) (q + 1) number }
+    ensures len { vec_len blocks.new ≡ vec_len blocks.old + 1 }
+    ensures capacity { vec_capacity blocks.new ≡ vec_capacity blocks.old }
+{
+    let upper = blocks[q].split(cut, lower, number);
+    blocks.insert((q + 1) % BEYOND, upper).unwrap();
 }
 
 /// Writes down that these stretches are those of another block now. Each has a key already.

@@ -15,7 +15,6 @@ ghost use Rattle.rga_runs.specs.Indexed.{stretches_in, IsIndexed, HasRoom, Takes
 use crate::block::{Block, Spare};
 use crate::key::Key;
 use crate::keys::{self, Keys};
-use crate::order::{grow_at, hide_at, part_at, put_at};
 use crate::room::make_room;
 use crate::stretch::weight;
 use crate::{bounds, counts, search};
@@ -204,7 +203,7 @@ pub fn put_lone(
     ensures room { TakesRoom 1 row.old row.new }
 {
     let (q, at) = make_room(row, b, j);
-    put_at(&mut row.blocks, q, at, id, parent, start, hidden);
+    row.blocks[q].insert(at, id, parent, start, hidden);
     bounds::lower(&mut row.bounds, q, id);
     counts::raise(&mut row.sums, q, weight(hidden));
     let number = row.blocks[q].number;
@@ -234,7 +233,7 @@ pub fn part(row: &mut Row, b: usize, j: usize, k: usize) -> (usize, usize)
     ensures room { TakesRoom 1 row.old row.new }
 {
     let (q, at) = make_room(row, b, j + 1);
-    let first = part_at(&mut row.blocks, q, at - 1, k);
+    let first = row.blocks[q].part(at - 1, k);
     let number = row.blocks[q].number;
     keys::add(&mut row.keys, first, number, at);
     row.count += 1;
@@ -256,7 +255,7 @@ pub fn grow(row: &mut Row, b: usize, j: usize, more: usize)
     ensures indexed { IsIndexed row.new }
     ensures room { TakesRoom 0 row.old row.new }
 {
-    grow_at(&mut row.blocks, b, j, more);
+    row.blocks[b].grow(j, more);
     counts::raise(&mut row.sums, b, more);
     row.recent = (b, j);
 }
@@ -273,6 +272,6 @@ pub fn hide_character(row: &mut Row, b: usize, j: usize, k: usize)
     ensures indexed { IsIndexed row.new }
     ensures room { TakesRoom 0 row.old row.new }
 {
-    hide_at(&mut row.blocks, b, j, k);
+    row.blocks[b].hide(j, k);
     counts::lower(&mut row.sums, b, 1);
 }

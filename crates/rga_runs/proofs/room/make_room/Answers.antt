@@ -4,7 +4,7 @@ use Rattle.std.specs.Prelude.{insert, set, vec_len}
 use Rattle.rga_runs.specs.declared.row.Row.{Row}
 use Rattle.rga_runs.specs.BlockRows.{items_of}
 use Rattle.rga_runs.specs.Indexed.{HasRoom, HasPlace}
-use Rattle.rga_runs.proofs.BlockLists.{length-items}
+use Rattle.rga_runs.proofs.BlockLists.{length-items, items_len}
 use Rattle.rga_runs.proofs.Halves.{IsInTwo, in_two}
 use Rattle.rga_runs.proofs.room.make_room.Goals as goal
 
@@ -23,14 +23,16 @@ placed r n room = record {
   few = room.few;
 }
 
-pub returns-then-len_of-lt-FULL : goal.returns-then-len_of-lt-FULL
-returns-then-len_of-lt-FULL c =
-    let here = c.len_of.ensures.len ∙ ap (λ d. length (get_or (items_of d) c.args.q [])) c.deref.ensures.value in
+pub returns-then-len-lt-FULL : goal.returns-then-len-lt-FULL
+returns-then-len-lt-FULL c =
+    let x = c.index.result.now in
+    let bs = c.args.row.now.blocks in
+    let here = items_len bs.items c.args.q x (omega (arith, c.requires.block, bs.ok)) c.index.ensures in
     record {
       block = c.requires.block;
       within = c.requires.within;
       behind = λ some. some;
-      free = omega (arith, here, c.if-len_of-lt-FULL.true);
+      free = omega (arith, here, c.len.ensures, c.if-len-lt-FULL.true);
       place = refl;
       row = refl;
       indexed = c.requires.indexed;
@@ -40,11 +42,13 @@ returns-then-len_of-lt-FULL c =
 pub returns-then-at-cut : goal.returns-then-at-cut
 returns-then-at-cut c =
     let new = c.split.new.row.blocks in
-    let old = c.args.row.now.blocks in
-    let here = c.len_of.ensures.len ∙ ap (λ d. length (get_or (items_of d) c.args.q [])) c.deref.ensures.value in
-    let h = split_full c.args.row.now c.split.new.row c.args.q c.kept_of-cut.result c.requires.block (omega (arith, here, c.len_of.ensures.most, c.if-len_of-lt-FULL.false)) c.kept_of-cut.ensures.most c.split.ensures.blocks in
+    let x = c.index.result.now in
+    let few = x.few in
+    let bs = c.args.row.now.blocks in
+    let here = items_len bs.items c.args.q x (omega (arith, c.requires.block, bs.ok)) c.index.ensures in
+    let h = split_full c.args.row.now c.split.new.row c.args.q c.kept_of-cut.result c.requires.block (omega (arith, here, c.len.ensures, few, c.if-len-lt-FULL.false)) c.kept_of-cut.ensures.most c.split.ensures.blocks in
     record {
-      block = omega (arith, h.longer, length-items new.items, new.ok, length-items old.items, old.ok, c.requires.block);
+      block = omega (arith, h.longer, length-items new.items, new.ok, length-items bs.items, bs.ok, c.requires.block);
       within = omega (arith, h.low, c.if-at-cut.true);
       behind = λ some. some;
       free = omega (arith, h.low, c.kept_of-cut.ensures.most);
@@ -57,12 +61,14 @@ returns-then-at-cut c =
 pub returns-else-at-cut : goal.returns-else-at-cut
 returns-else-at-cut c =
     let new = c.split.new.row.blocks in
-    let old = c.args.row.now.blocks in
-    let here = c.len_of.ensures.len ∙ ap (λ d. length (get_or (items_of d) c.args.q [])) c.deref.ensures.value in
-    let h = split_full c.args.row.now c.split.new.row c.args.q c.kept_of-cut.result c.requires.block (omega (arith, here, c.len_of.ensures.most, c.if-len_of-lt-FULL.false)) c.kept_of-cut.ensures.most c.split.ensures.blocks in
+    let x = c.index.result.now in
+    let few = x.few in
+    let bs = c.args.row.now.blocks in
+    let here = items_len bs.items c.args.q x (omega (arith, c.requires.block, bs.ok)) c.index.ensures in
+    let h = split_full c.args.row.now c.split.new.row c.args.q c.kept_of-cut.result c.requires.block (omega (arith, here, c.len.ensures, few, c.if-len-lt-FULL.false)) c.kept_of-cut.ensures.most c.split.ensures.blocks in
     record {
-      block = omega (arith, h.longer, length-items new.items, new.ok, length-items old.items, old.ok, c.requires.block);
-      within = omega (arith, h.high, c.requires.within, here, c.len_of.ensures.most);
+      block = omega (arith, h.longer, length-items new.items, new.ok, length-items bs.items, bs.ok, c.requires.block);
+      within = omega (arith, h.high, c.requires.within, here, c.len.ensures, few);
       behind = λ some. omega (arith, c.if-at-cut.false);
       free = omega (arith, h.high, c.kept_of-cut.ensures.least);
       place = h.place_high c.args.at (omega (arith, c.if-at-cut.false));

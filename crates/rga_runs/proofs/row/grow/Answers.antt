@@ -1,5 +1,5 @@
 -- The goal of `grow` that is answered by hand.
-use Rattle.std.proofs.Common.{◌≡◌, ◌++◌, ◌/◌, ℕ, ◌<◌, ◌+◌, ◌∙◌, [], sym, ap, subst, length, get_or, take, drop, arith}
+use Rattle.std.proofs.Common.{◌≡◌, ◌++◌, ◌/◌, ℕ, ◌<◌, ◌+◌, ◌∙◌, [], sym, ap, subst, length, get_or, take, drop, List, length-set, arith}
 use Rattle.std.specs.Prelude.{All, set, slice_get}
 use Rattle.std.proofs.lemmas.List.{take_at}
 use Rattle.std.proofs.lemmas.List.Elements.{All-set}
@@ -15,7 +15,7 @@ use Rattle.rga_runs.specs.Sums.{AreSums}
 use Rattle.rga_runs.specs.Keyed.{look_in}
 use Rattle.rga_runs.specs.KeyRows.{keys_in}
 use Rattle.rga_runs.specs.Indexed.{IsHome, AreHome, AreKnown}
-use Rattle.rga_runs.proofs.BlockLists.{length-items}
+use Rattle.rga_runs.proofs.BlockLists.{length-items, items_at, items-set, numbers-set}
 use Rattle.rga_runs.proofs.Chunks.{set_row, get_or_row, at_less, one_there, any_item, length_set}
 use Rattle.rga_runs.proofs.Halves.{AreHalfFull-set}
 use Rattle.rga_runs.proofs.Homes.{told, homes_set, home_grown}
@@ -39,11 +39,16 @@ returns c =
     let p = at_spot xs b j in
     let there : b < length xs = omega (arith, length-items bs, r.blocks.ok, c.requires.block) in
     let d = one_there x j c.requires.within in
-    let e = c.grow_at.ensures.items d in
+    let old_block = c.index_mut.result.now in
+    let some : b < length bs = omega (arith, r.blocks.ok, c.requires.block) in
+    let at = c.index_mut.ensures.value in
+    let e = c.grow.ensures.items d in
     let s = e.0 in
-    let is = e.1 in
-    let new = c.grow_at.new.blocks.items in
-    let row_is : row_of (items_of new) ≡ set (row_of xs) p s = ap row_of e.2 ∙ set_row xs b j s there c.requires.within in
+    let is : IsGrown (get_or x j d) s c.args.more = subst (λ (l : List Stretch). IsGrown (get_or l j d) s c.args.more) (sym (items_at bs b old_block some at)) e.1 in
+    let new = set bs b c.grow.new.self in
+    let items : items_of new ≡ set xs b (set x j s) = items-set bs b old_block c.grow.new.self (λ l. set l j s) some at e.2 in
+    let numbers : numbers_of new ≡ ns = numbers-set bs b old_block c.grow.new.self some at c.grow.ensures.number in
+    let row_is : row_of (items_of new) ≡ set (row_of xs) p s = ap row_of items ∙ set_row xs b j s there c.requires.within in
     let long : length (row_of (items_of new)) ≡ length (row_of xs) = ap length row_is ∙ length_set (row_of xs) p s in
     let look = look_in (keys_in r.keys) in
     let item = λ (z : Stretch). get_or_row xs b j z there c.requires.within in
@@ -60,26 +65,26 @@ returns c =
     record {
       row = λ d2. (s, subst (λ (z : Stretch). IsGrown z s more) (any_item x j d d2 c.requires.within ∙ sym (item d2)) is, row_is);
       indexed = record {
-        homes = subst (λ ys. AreHome look ys (numbers_of new)) (sym e.2) (subst (AreHome look (set xs b (set x j s))) (sym c.grow_at.ensures.numbers)
+        homes = subst (λ ys. AreHome look ys (numbers_of new)) (sym items) (subst (AreHome look (set xs b (set x j s))) (sym numbers)
             (homes_set look xs ns b (set x j s) there was.homes (All-set (IsHome look (get_or ns b 0)) x j s own (was.homes b there))));
         known = subst (AreKnown look) (sym row_is) (known_set look (row_of xs) p d s (at_less xs b j there c.requires.within) (is.first ∙ ap (λ (z : Stretch). z.first) (sym (item d)))
             (omega (arith, is.count, ap (λ (z : Stretch). z.count) (item d))) was.known);
-        places = λ p less. ap (λ l. slice_get r.places.items (get_or l p 0)) c.grow_at.ensures.numbers
-            ∙ was.places p (omega (arith, less, c.grow_at.ensures.len, c.grow_at.new.blocks.ok, r.blocks.ok));
-        as_many = omega (arith, c.grow_at.ensures.len, was.as_many);
+        places = λ p less. ap (λ l. slice_get r.places.items (get_or l p 0)) numbers
+            ∙ was.places p (omega (arith, less, length-set bs b c.grow.new.self));
+        as_many = was.as_many;
         keyed = omega (arith, was.keyed, long);
         counted = omega (arith, was.counted, long);
-        halves = subst AreHalfFull (sym e.2) (AreHalfFull-set xs b (set x j s) was.halves (omega (arith, length_set x j s)));
-        bounds = subst (AreBounds r.bounds.items) (sym e.2) (bounds-same r.bounds.items xs b (set x j s) (λ m h. low_set m x j d s h c.requires.within is.first) was.bounds);
-        sums = subst (λ l. AreSums l (items_of new)) (sym kept) (subst (AreSums c.raise.new.sums) (sym e.2) changed);
-        few = omega (arith, was.few, c.grow_at.ensures.len);
+        halves = subst AreHalfFull (sym items) (AreHalfFull-set xs b (set x j s) was.halves (omega (arith, length_set x j s)));
+        bounds = subst (AreBounds r.bounds.items) (sym items) (bounds-same r.bounds.items xs b (set x j s) (λ m h. low_set m x j d s h c.requires.within is.first) was.bounds);
+        sums = subst (λ l. AreSums l (items_of new)) (sym kept) (subst (AreSums c.raise.new.sums) (sym items) changed);
+        few = was.few;
       };
       room = none_more c.args.row.now _ (long) (λ n room. record {
-        paid = λ few. omega (arith, room.paid few, long, c.grow_at.ensures.len);
+        paid = λ few. omega (arith, room.paid few, long);
         keys = λ few. omega (arith, room.keys few, long);
-        blocks = omega (arith, room.blocks, c.grow_at.ensures.len, c.grow_at.ensures.capacity);
-        places = omega (arith, room.places, c.grow_at.ensures.len);
-        few = omega (arith, room.few, c.grow_at.ensures.len);
+        blocks = room.blocks;
+        places = room.places;
+        few = room.few;
       });
     }
 

@@ -1,5 +1,5 @@
 -- The goals of `part` that are answered by hand.
-use Rattle.std.proofs.Common.{◌≡◌, ℕ, ◌<◌, ◌≤◌, ◌+◌, ◌-◌, ◌∙◌, [], List, not, sym, ap, subst, length, get_or, arith}
+use Rattle.std.proofs.Common.{◌≡◌, ℕ, ◌<◌, ◌≤◌, ◌+◌, ◌-◌, ◌∙◌, [], List, not, sym, ap, subst, length, get_or, length-set, arith}
 use Rattle.std.specs.Prelude.{insert, set, slice_get}
 use Rattle.std.proofs.lemmas.List.Edits.{length-insert}
 use Rattle.std.specs.Ordering.{is_lt}
@@ -16,7 +16,7 @@ use Rattle.rga_runs.specs.Sums.{AreSums}
 use Rattle.rga_runs.specs.Keyed.{look_in}
 use Rattle.rga_runs.specs.KeyRows.{keys_in}
 use Rattle.rga_runs.specs.Indexed.{AreHome, AreKnown}
-use Rattle.rga_runs.proofs.BlockLists.{length-items, items_there, length-numbers, number_there, few_stretches}
+use Rattle.rga_runs.proofs.BlockLists.{length-items, items_there, items_at, items-set, length-numbers, numbers-set, number_there, few_stretches}
 use Rattle.rga_runs.proofs.Chunks.{part_row, get_or_row, at_less, one_there, any_item, there_set, front_set, length_set}
 use Rattle.rga_runs.proofs.Halves.{AreHalfFull-set}
 use Rattle.rga_runs.proofs.Homes.{Gains}
@@ -42,18 +42,24 @@ overflow_add-j c =
     let few = (get_or bs.items c.args.b x).few in
     omega (arith, c.requires.within, ap length (items_there bs.items c.args.b x (omega (arith, bs.ok, c.requires.block))), (get_or bs.items c.args.b x).stretches.ok, few)
 
-pub part_at-first-requires-clause-within : goal.part_at-first-requires-clause-within
-part_at-first-requires-clause-within c = omega (arith, c.make_room-q.ensures.within, c.make_room-q.ensures.behind (omega arith))
+pub part-first-requires-clause-there : goal.part-first-requires-clause-there
+part-first-requires-clause-there c =
+    let bs = c.make_room-q.new.row.blocks in
+    let here = items_at bs.items c.make_room-q.result.0 c.index_mut.result.now (omega (arith, bs.ok, c.make_room-q.ensures.block)) c.index_mut.ensures.value in
+    omega (arith, c.make_room-q.ensures.within, c.make_room-q.ensures.behind (omega arith), ap length here)
 
-pub part_at-first-requires-clause-inside : goal.part_at-first-requires-clause-inside
-part_at-first-requires-clause-inside c = λ d.
+pub part-first-requires-clause-within : goal.part-first-requires-clause-within
+part-first-requires-clause-within c = λ d.
     let old = c.args.row.now in
     let mid = c.make_room-q.new.row in
     let xs = items_of old.blocks.items in
     let ys = items_of mid.blocks.items in
-    let item = moved_item xs ys c.args.b c.args.j c.make_room-q.result.0 c.make_room-q.result.1 d (omega (arith, length-items old.blocks.items, old.blocks.ok, c.requires.block)) c.requires.within
+    let q = c.make_room-q.result.0 in
+    let at = c.make_room-q.result.1 in
+    let here = items_at mid.blocks.items q c.index_mut.result.now (omega (arith, mid.blocks.ok, c.make_room-q.ensures.block)) c.index_mut.ensures.value in
+    let item = moved_item xs ys c.args.b c.args.j q at d (omega (arith, length-items old.blocks.items, old.blocks.ok, c.requires.block)) c.requires.within
     (omega (arith, length-items mid.blocks.items, mid.blocks.ok, c.make_room-q.ensures.block)) c.make_room-q.ensures.within (c.make_room-q.ensures.behind (omega arith)) c.make_room-q.ensures.place c.make_room-q.ensures.row in
-    subst (λ (s : Stretch). c.args.k < s.count) (sym item) (c.requires.inside d)
+    subst (λ (l : List Stretch). c.args.k < (get_or l (at - 1) d).count) here (subst (λ (s : Stretch). c.args.k < s.count) (sym item) (c.requires.inside d))
 
 pub overflow_add-row : goal.overflow_add-row
 overflow_add-row c =
@@ -67,9 +73,12 @@ add-requires-clause-few c =
     let bs = mid.blocks.items in
     let ns = numbers_of bs in
     let q = c.make_room-q.result.0 in
+    let some : q < length bs = omega (arith, mid.blocks.ok, c.make_room-q.ensures.block) in
+    let new = set bs q c.part-first.new.self in
+    let numbers : numbers_of new ≡ ns = numbers-set bs q c.index_mut.result.now c.part-first.new.self some c.index_mut.ensures.value c.part-first.ensures.number in
     let len_ns : length ns ≡ length bs = length-numbers bs in
     let number_is : (c.index.result.now).number ≡ get_or ns q 0 =
-    ap (λ (b : Block). b.number) c.index.ensures ∙ sym (number_there c.part_at-first.new.blocks.items q c.index.result.now (omega (arith, c.part_at-first.new.blocks.ok, c.part_at-first.ensures.len, c.make_room-q.ensures.block))) ∙ ap (λ r. get_or r q 0) c.part_at-first.ensures.numbers in
+    ap (λ (b : Block). b.number) c.index.ensures ∙ sym (number_there new q c.index.result.now (omega (arith, some, length-set bs q c.part-first.new.self))) ∙ ap (λ r. get_or r q 0) numbers in
     let many : length mid.places.items ≡ length ns = omega (arith, len_ns, mid.blocks.ok, mid.places.ok, c.make_room-q.ensures.indexed.as_many) in
     let below = few_numbers ns mid.places.items q (λ p h. c.make_room-q.ensures.indexed.places p (omega (arith, len_ns, h))) many (omega (arith, len_ns, mid.blocks.ok, c.make_room-q.ensures.block)) in
     let room = c.make_room-q.ensures.room 0 c.requires.room in
@@ -100,14 +109,18 @@ returns c =
     let within : i < length y = omega (arith, c.make_room-q.ensures.within, behind) in
     let d = one_there y i within in
     let item = λ (z : Stretch). moved_item xs ys c.args.b c.args.j q at z old_there c.requires.within there c.make_room-q.ensures.within behind c.make_room-q.ensures.place c.make_room-q.ensures.row in
-    let e = c.part_at-first.ensures.items d in
+    let some : q < length bs = omega (arith, mid.blocks.ok, c.make_room-q.ensures.block) in
+    let block = c.index_mut.result.now in
+    let value = c.index_mut.ensures.value in
+    let e = c.part-first.ensures.items d in
     let low = e.0 in
     let rest = e.1 in
-    let is = e.2 in
+    let is : IsParted (get_or y i d) low rest c.args.k = subst (λ (l : List Stretch). IsParted (get_or l i d) low rest c.args.k) (sym (items_at bs q block some value)) e.2 in
     let first = e.3 in
     let next : i + 1 ≡ at = omega (arith, behind) in
-    let new = c.part_at-first.new.blocks.items in
-    let items : items_of new ≡ set ys q (insert (set y i low) (i + 1) rest) = e.4 in
+    let new = set bs q c.part-first.new.self in
+    let items : items_of new ≡ set ys q (insert (set y i low) (i + 1) rest) = items-set bs q block c.part-first.new.self (λ l. insert (set l i low) (i + 1) rest) some value e.4 in
+    let numbers : numbers_of new ≡ ns = numbers-set bs q block c.part-first.new.self some value c.part-first.ensures.number in
     let row_is : row_of (items_of new) ≡ insert (set (row_of ys) (at_spot ys q i) low) (at_spot ys q i + 1) rest = ap row_of items ∙ part_row ys q i low rest there within in
     let less = at_less ys q i there within in
     let long_set : length (set (row_of ys) (at_spot ys q i) low) ≡ length (row_of ys) = length_set (row_of ys) (at_spot ys q i) low in
@@ -117,8 +130,8 @@ returns c =
     let old_look = look_in (keys_in mid.keys) in
     let look = look_in (keys_in c.add.new.keys) in
     let number_is : (c.index.result.now).number ≡ get_or ns q 0 =
-    ap (λ (b : Block). b.number) c.index.ensures ∙ sym (number_there new q c.index.result.now (omega (arith, c.part_at-first.new.blocks.ok, c.part_at-first.ensures.len, c.make_room-q.ensures.block))) ∙ ap (λ r. get_or r q 0) c.part_at-first.ensures.numbers in
-    let gains : Gains look old_look rest.first (get_or ns q 0) = subst (λ f. Gains look old_look f (get_or ns q 0)) (sym first) (subst (Gains look old_look c.part_at-first.result) number_is c.add.ensures.looks) in
+    ap (λ (b : Block). b.number) c.index.ensures ∙ sym (number_there new q c.index.result.now (omega (arith, some, length-set bs q c.part-first.new.self))) ∙ ap (λ r. get_or r q 0) numbers in
+    let gains : Gains look old_look rest.first (get_or ns q 0) = subst (λ f. Gains look old_look f (get_or ns q 0)) (sym first) (subst (Gains look old_look c.part-first.result) number_is c.add.ensures.looks) in
     let apart : AreApart (row_of ys) = subst AreApart (sym c.make_room-q.ensures.row) c.requires.apart in
     let count = ap (λ n. n + rest.count) is.count ∙ is.rest_count in
     let begins = is.rest_first ∙ ap (λ n. later (get_or y i d).first n) (sym is.count) in
@@ -129,7 +142,7 @@ returns c =
     let z = insert (set y i low) (i + 1) rest in
     let longer : length z ≡ length y + 1 = omega (arith, length-insert (set y i low) (i + 1) rest (omega (arith, length_set y i low, within)), length_set y i low) in
     record {
-      block = omega (arith, c.part_at-first.ensures.len, c.make_room-q.ensures.block);
+      block = c.make_room-q.ensures.block;
       within = omega (arith, ap (λ zs. length (get_or zs q [])) items, ap length (there_set ys q z there), longer, c.make_room-q.ensures.within);
       behind = behind;
       place = ap (λ zs. at_spot zs q at) items ∙ ap (λ zs. length (row_of zs) + at) (front_set ys q z) ∙ omega (arith, c.make_room-q.ensures.place);
@@ -140,11 +153,11 @@ returns c =
         row_is ∙ (λ t. insert (set (c.make_room-q.ensures.row t) (spot t) low) (spot t + 1) rest),
       );
       indexed = record {
-        homes = subst (λ zs. AreHome look zs (numbers_of new)) (sym items) (subst (AreHome look (set ys q (insert (set y i low) (i + 1) rest))) (sym c.part_at-first.ensures.numbers) homes);
+        homes = subst (λ zs. AreHome look zs (numbers_of new)) (sym items) (subst (AreHome look (set ys q (insert (set y i low) (i + 1) rest))) (sym numbers) homes);
         known = subst (AreKnown look) (sym row_is) known;
-        places = λ p less. ap (λ r. slice_get mid.places.items (get_or r p 0)) c.part_at-first.ensures.numbers
-            ∙ was.places p (omega (arith, less, c.part_at-first.ensures.len, c.part_at-first.new.blocks.ok, mid.blocks.ok));
-        as_many = omega (arith, c.part_at-first.ensures.len, was.as_many);
+        places = λ p less. ap (λ r. slice_get mid.places.items (get_or r p 0)) numbers
+            ∙ was.places p (omega (arith, less, length-set bs q c.part-first.new.self));
+        as_many = was.as_many;
         keyed = omega (arith, c.add.ensures.len, was.keyed, long);
         counted = omega (arith, was.counted, long);
         halves = subst AreHalfFull (sym items) (AreHalfFull-set ys q (insert (set y i low) (i + 1) rest) was.halves (omega (arith, longer)));
@@ -152,15 +165,15 @@ returns c =
             (λ m h. low_insert m (set y i low) (i + 1) rest (low_set m y i d low h within is.first) (ap (λ f. not (is_lt (id_cmp f m))) is.rest_first ∙ later_above m (get_or y i d).first c.args.k (low_at m y i d h within)))
             was.bounds);
         sums = subst (AreSums mid.sums.items) (sym items) (sums-same mid.sums.items ys q z there (visible-parted y i d low rest within is.visible) was.sums);
-        few = omega (arith, was.few, c.part_at-first.ensures.len);
+        few = was.few;
       };
       room = one_more c.args.row.now _ (omega (arith, long, ap length c.make_room-q.ensures.row)) (λ n paid.
           let room = c.make_room-q.ensures.room n paid in
           record {
-            paid = λ few. omega (arith, room.paid few, long, c.part_at-first.ensures.len);
+            paid = λ few. omega (arith, room.paid few, long);
             keys = λ few. omega (arith, room.keys (omega (arith, few, c.add.ensures.spares)), long, c.add.ensures.room);
-            blocks = omega (arith, room.blocks, c.part_at-first.ensures.len, c.part_at-first.ensures.capacity);
-            places = omega (arith, room.places, c.part_at-first.ensures.len);
-            few = omega (arith, room.few, c.part_at-first.ensures.len);
+            blocks = room.blocks;
+            places = room.places;
+            few = room.few;
           });
     }

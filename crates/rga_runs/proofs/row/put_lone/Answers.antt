@@ -1,5 +1,5 @@
 -- The goals of `put_lone` that are answered by hand.
-use Rattle.std.proofs.Common.{◌≡◌, ◌<◌, ◌+◌, ◌/◌, ◌++◌, ◌∙◌, [], sym, ap, subst, take, drop, length, get_or, arith}
+use Rattle.std.proofs.Common.{◌≡◌, ◌<◌, ◌+◌, ◌/◌, ◌++◌, ◌∙◌, [], sym, ap, subst, take, drop, length, get_or, length-set, arith}
 use Rattle.std.specs.Prelude.{All, insert, set, slice_get}
 use Rattle.std.proofs.lemmas.List.{take_at}
 use Rattle.std.proofs.lemmas.List.Edits.{length-insert}
@@ -12,7 +12,7 @@ use Rattle.rga_runs.specs.Sums.{AreSums}
 use Rattle.rga_runs.specs.Keyed.{look_in}
 use Rattle.rga_runs.specs.KeyRows.{keys_in}
 use Rattle.rga_runs.specs.Indexed.{AreHome, AreKnown}
-use Rattle.rga_runs.proofs.BlockLists.{length-items, length-numbers, number_there, few_stretches}
+use Rattle.rga_runs.proofs.BlockLists.{length-items, items-set, length-numbers, numbers-set, number_there, few_stretches}
 use Rattle.rga_runs.proofs.Chunks.{insert_row, at_within}
 use Rattle.rga_runs.proofs.Halves.{AreHalfFull-set}
 use Rattle.rga_runs.proofs.Homes.{Gains, homes_insert}
@@ -34,9 +34,12 @@ put-requires-clause-few c =
     let bs = mid.blocks.items in
     let ns = numbers_of bs in
     let q = c.make_room-q.result.0 in
+    let some : q < length bs = omega (arith, mid.blocks.ok, c.make_room-q.ensures.block) in
+    let new = set bs q c.insert.new.self in
+    let numbers : numbers_of new ≡ ns = numbers-set bs q c.index_mut.result.now c.insert.new.self some c.index_mut.ensures.value c.insert.ensures.number in
     let len_ns : length ns ≡ length bs = length-numbers bs in
     let number_is : (c.index.result.now).number ≡ get_or ns q 0 =
-    ap (λ (b : Block). b.number) c.index.ensures ∙ sym (number_there c.put_at.new.blocks.items q c.index.result.now (omega (arith, c.put_at.new.blocks.ok, c.put_at.ensures.len, c.make_room-q.ensures.block))) ∙ ap (λ r. get_or r q 0) c.put_at.ensures.numbers in
+    ap (λ (b : Block). b.number) c.index.ensures ∙ sym (number_there new q c.index.result.now (omega (arith, some, length-set bs q c.insert.new.self))) ∙ ap (λ r. get_or r q 0) numbers in
     let many : length mid.places.items ≡ length ns = omega (arith, len_ns, mid.blocks.ok, mid.places.ok, c.make_room-q.ensures.indexed.as_many) in
     let below = few_numbers ns mid.places.items q (λ p h. c.make_room-q.ensures.indexed.places p (omega (arith, len_ns, h))) many (omega (arith, len_ns, mid.blocks.ok, c.make_room-q.ensures.block)) in
     let room = c.make_room-q.ensures.room 0 c.requires.room in
@@ -58,16 +61,19 @@ returns c =
     let at = c.make_room-q.result.1 in
     let x = get_or xs q [] in
     let id = c.args.id in
-    let e = c.put_at.ensures.items in
+    let e = c.insert.ensures.items in
     let s = e.0 in
-    let new = c.put_at.new.blocks.items in
+    let some : q < length bs = omega (arith, mid.blocks.ok, c.make_room-q.ensures.block) in
+    let new = set bs q c.insert.new.self in
+    let items : items_of new ≡ set xs q (insert x at s) = items-set bs q c.index_mut.result.now c.insert.new.self (λ l. insert l at s) some c.index_mut.ensures.value e.2 in
+    let numbers : numbers_of new ≡ ns = numbers-set bs q c.index_mut.result.now c.insert.new.self some c.index_mut.ensures.value c.insert.ensures.number in
     let there : q < length xs = omega (arith, length-items bs, mid.blocks.ok, c.make_room-q.ensures.block) in
-    let row_is : row_of (items_of new) ≡ insert (row_of xs) (at_spot xs q at) s = ap row_of e.2 ∙ insert_row xs q at s there c.make_room-q.ensures.within in
+    let row_is : row_of (items_of new) ≡ insert (row_of xs) (at_spot xs q at) s = ap row_of items ∙ insert_row xs q at s there c.make_room-q.ensures.within in
     let long : length (row_of (items_of new)) ≡ length (row_of xs) + 1 = ap length row_is ∙ length-insert (row_of xs) (at_spot xs q at) s (at_within xs q at there c.make_room-q.ensures.within) in
     let old_look = look_in (keys_in mid.keys) in
     let look = look_in (keys_in c.put.new.keys) in
     let number_is : (c.index.result.now).number ≡ get_or ns q 0 =
-    ap (λ (b : Block). b.number) c.index.ensures ∙ sym (number_there new q c.index.result.now (omega (arith, c.put_at.new.blocks.ok, c.put_at.ensures.len, c.make_room-q.ensures.block))) ∙ ap (λ r. get_or r q 0) c.put_at.ensures.numbers in
+    ap (λ (b : Block). b.number) c.index.ensures ∙ sym (number_there new q c.index.result.now (omega (arith, some, length-set bs q c.insert.new.self))) ∙ ap (λ r. get_or r q 0) numbers in
     let gains : Gains look old_look id (get_or ns q 0) = subst (Gains look old_look id) number_is c.put.ensures.looks in
     let outside : All (IsOutside id) (row_of xs) = subst (All (IsOutside id)) (sym c.make_room-q.ensures.row) c.requires.new in
     let own = home_lone look (keys_in mid.keys) id (get_or ns q 0) s gains e.1.first e.1.count in
@@ -84,26 +90,26 @@ returns c =
     record {
       row = (s, e.1, row_is ∙ (λ i. insert (c.make_room-q.ensures.row i) (c.make_room-q.ensures.place i) s));
       indexed = record {
-        homes = subst (λ ys. AreHome look ys (numbers_of new)) (sym e.2) (subst (AreHome look (set xs q (insert x at s))) (sym c.put_at.ensures.numbers) homes);
+        homes = subst (λ ys. AreHome look ys (numbers_of new)) (sym items) (subst (AreHome look (set xs q (insert x at s))) (sym numbers) homes);
         known = subst (AreKnown look) (sym row_is) (known_insert look old_look id (get_or ns q 0) (row_of xs) (at_spot xs q at) s gains e.1.first was.known);
-        places = λ p less. ap (λ r. slice_get mid.places.items (get_or r p 0)) c.put_at.ensures.numbers
-            ∙ was.places p (omega (arith, less, c.put_at.ensures.len, c.put_at.new.blocks.ok, mid.blocks.ok));
-        as_many = omega (arith, c.put_at.ensures.len, was.as_many);
+        places = λ p less. ap (λ r. slice_get mid.places.items (get_or r p 0)) numbers
+            ∙ was.places p (omega (arith, less, length-set bs q c.insert.new.self));
+        as_many = was.as_many;
         keyed = omega (arith, c.put.ensures.len, was.keyed, long);
         counted = omega (arith, was.counted, long);
-        halves = subst AreHalfFull (sym e.2) (AreHalfFull-set xs q (insert x at s) was.halves (omega (arith, length-insert x at s c.make_room-q.ensures.within)));
-        bounds = subst (λ bounds. AreBounds bounds (items_of new)) (sym kept) (subst (AreBounds c.lower.new.bounds) (sym e.2) lowered);
-        sums = subst (λ r. AreSums r (items_of new)) (sym kept_sums) (subst (AreSums c.raise.new.sums) (sym e.2) raised);
-        few = omega (arith, was.few, c.put_at.ensures.len);
+        halves = subst AreHalfFull (sym items) (AreHalfFull-set xs q (insert x at s) was.halves (omega (arith, length-insert x at s c.make_room-q.ensures.within)));
+        bounds = subst (λ bounds. AreBounds bounds (items_of new)) (sym kept) (subst (AreBounds c.lower.new.bounds) (sym items) lowered);
+        sums = subst (λ r. AreSums r (items_of new)) (sym kept_sums) (subst (AreSums c.raise.new.sums) (sym items) raised);
+        few = was.few;
       };
       room = one_more c.args.row.now _ (omega (arith, long, ap length c.make_room-q.ensures.row)) (λ n paid.
           let room = c.make_room-q.ensures.room n paid in
           record {
-            paid = λ few. omega (arith, room.paid few, long, c.put_at.ensures.len);
+            paid = λ few. omega (arith, room.paid few, long);
             keys = λ few. omega (arith, room.keys (omega (arith, few, c.put.ensures.spares)), long, c.put.ensures.room);
-            blocks = omega (arith, room.blocks, c.put_at.ensures.len, c.put_at.ensures.capacity);
-            places = omega (arith, room.places, c.put_at.ensures.len);
-            few = omega (arith, room.few, c.put_at.ensures.len);
+            blocks = room.blocks;
+            places = room.places;
+            few = room.few;
           });
     }
 
