@@ -1,9 +1,9 @@
 -- Leaves of keys as one row.
 use Rattle.std.proofs.Common.{◌≡◌, ℕ, zero, suc, ◌<◌, ◌≤◌, ◌-◌, Bool, true, false, cond, List, [], ◌∷◌, ◌++◌, length, take, drop, get_or, Some, refl, sym, ap, subst, ◌∙◌, length-append, arith}
-use Rattle.std.specs.Prelude.{insert, set, nat_lt}
+use Rattle.std.specs.Prelude.{insert, set, nat_lt, vec_len}
 use Rattle.std.specs.List.Sorted.{IsNonDecreasingBy}
 use Rattle.std.proofs.lemmas.Bool.{ltb-true, ltb-false}
-use Rattle.std.proofs.lemmas.List.{length-map, get_or-map, drop-map, map-append, take-map, take-append-drop, take_all}
+use Rattle.std.proofs.lemmas.List.{length-map, get_or-map, drop-map, map-append, map-set, take-map, take-append-drop, take_all}
 use Rattle.bg_types.specs.Identifier.{Identifier}
 use Rattle.rga_runs.specs.declared.key.Key.{Key}
 use Rattle.rga_runs.specs.declared.leaf.Leaf.{Leaf}
@@ -21,6 +21,16 @@ keys_there ls b l there = get_or-map (λ (l : Leaf). l.keys.items) ls b l [] the
 -- those of a leaf that was read
 pub keys_at : (ls : List Leaf) (b : ℕ) (l : Leaf) → b < length ls → l ≡ get_or ls b l → get_or (keys_of ls) b [] ≡ l.keys.items
 keys_at ls b l there is = keys_there ls b l there ∙ ap (λ (l : Leaf). l.keys.items) (sym is)
+
+-- how many it has
+pub keys_len : (ls : List Leaf) (b : ℕ) (l : Leaf) → b < length ls → l ≡ get_or ls b l → vec_len l.keys ≡ length (get_or (keys_of ls) b [])
+keys_len ls b l there is = omega (arith, l.keys.ok, ap length (keys_at ls b l there is))
+
+-- a leaf whose keys were changed
+pub keys-set : (ls : List Leaf) (b : ℕ) (old new : Leaf) (F : List Key → List Key) → b < length ls → old ≡ get_or ls b old → new.keys.items ≡ F old.keys.items
+    → keys_of (set ls b new) ≡ set (keys_of ls) b (F (get_or (keys_of ls) b []))
+keys-set ls b old new F there is changed =
+    map-set (λ (l : Leaf). l.keys.items) ls b new ∙ ap (set (keys_of ls) b) (changed ∙ ap F (sym (keys_at ls b old there is)))
 
 pub keys-insert : (ls : List Leaf) (i : ℕ) (l : Leaf) → keys_of (insert ls i l) ≡ insert (keys_of ls) i l.keys.items
 keys-insert ls i l =

@@ -9,10 +9,9 @@ ghost use Rattle.rga_runs.specs.Blocks.{AreHalfFull};
 ghost use Rattle.rga_runs.specs.Keyed.{rank, look_in, reaches, begins};
 ghost use Rattle.rga_runs.specs.Leaves.{keys_of, all_keys, place_in};
 
-use crate::cut::{FULL, HALF, kept_of};
+use crate::cut::{BEYOND, FULL, HALF, kept_of};
 use crate::key::Key;
 use crate::leaf::{Leaf, SpareLeaf};
-use crate::leaves::{give_at, len_of, put_at, split_at, write_at};
 use crate::rank::{ends_not_above, not_above, rank_of, share};
 use bg_types::{Id, Memory};
 use std::alloc::Global;
@@ -169,7 +168,7 @@ fn put_in(keys: &mut Keys, b: usize, at: usize, key: Key) -> usize
     ensures spares { vec_len keys.old.spares ≤ vec_len keys.new.spares + 1 }
 {
     let (q, j) = make_room(keys, b, at);
-    put_at(&mut keys.leaves, q, j, key);
+    keys.leaves[q].insert(j, key);
     q
 }
 
@@ -197,7 +196,7 @@ fn make_room(keys: &mut Keys, b: usize, at: usize) -> (usize, usize)
     ensures room { vec_len keys.new.leaves + vec_len keys.new.spares ≡ vec_len keys.old.leaves + vec_len keys.old.spares }
     ensures spares { vec_len keys.old.spares ≤ vec_len keys.new.spares + 1 }
 {
-    if len_of(&keys.leaves, b) < FULL {
+    if keys.leaves[b].keys.len() < FULL {
         return (b, at);
     }
     if ends_site(&keys.leaves, b, at) {
@@ -252,7 +251,7 @@ fn give_behind(keys: &mut Keys, b: usize, at: usize)
     ensures spares { vec_len keys.old.spares ≤ vec_len keys.new.spares + 1 }
 {
     split_full(keys, b + 1);
-    let from = at.max(len_of(&keys.leaves, b + 1));
+    let from = at.max(keys.leaves[b + 1].keys.len());
     give(keys, b, from);
 }
 
@@ -267,7 +266,7 @@ fn split_full(keys: &mut Keys, b: usize)
     ensures room { vec_len keys.new.leaves + vec_len keys.new.spares ≡ vec_len keys.old.leaves + vec_len keys.old.spares }
     ensures spares { vec_len keys.old.spares ≤ vec_len keys.new.spares + 1 }
 {
-    if len_of(&keys.leaves, b) < FULL {
+    if keys.leaves[b].keys.len() < FULL {
         return;
     }
     split(keys, b, HALF);
@@ -287,6 +286,19 @@ fn give(keys: &mut Keys, b: usize, at: usize)
     give_at(&mut keys.leaves, b, at);
 }
 
+/// Gives the keys of leaf b from one on to the next leaf, which has room for them.
+fn give_at(leaves: &mut [Leaf], b: usize, at: usize)
+    requires next { b + 1 < length leaves.old }
+    requires some { 0 < at }
+    requires within { at < length (get_or (keys_of leaves.old) b []) }
+    requires room { length (get_or (keys_of leaves.old) b []) + length (get_or (keys_of leaves.old) (b + 1) []) ≤ at + 256 }
+    ensures { let x = get_or (keys_of leaves.old) b [] in let y = get_or (keys_of leaves.old) (b + 1) [] in
+        keys_of leaves.new ≡ slice_set (slice_set (keys_of leaves.old) b (take at x)) (b + 1) (drop at x ++ y) }
+{
+    let (front, back) = leaves.split_at_mut(b + 1);
+    front[b].give(at, &mut back[0]);
+}
+
 /// Splits a full leaf into two, of which the first keeps `cut` keys: half of them, or more in the last leaf.
 fn split(keys: &mut Keys, b: usize, cut: usize)
     requires leaf { b < vec_len keys.old.leaves }
@@ -301,8 +313,9 @@ fn split(keys: &mut Keys, b: usize, cut: usize)
     ensures room { vec_len keys.new.leaves + vec_len keys.new.spares ≡ vec_len keys.old.leaves + vec_len keys.old.spares }
     ensures spares { vec_len keys.new.spares + 1 ≡ vec_len keys.old.spares }
 {
-    let upper = keys.spares.pop().unwrap().keys;
-    split_at(&mut keys.leaves, b, cut, upper);
+    let memory = keys.spares.pop().unwrap().keys;
+    let upper = keys.leaves[b].split(cut, memory);
+    keys.leaves.insert((b + 1) % BEYOND, upper).unwrap();
 }
 
 /// Writes down that the stretch that begins with an identifier is at a place of another block now.
@@ -317,7 +330,7 @@ pub fn renew(keys: &mut Keys, id: Id, number: usize, place: usize)
 {
     let (leaf, likely) = keys.renewed[usize::from(id.site()) % SITES];
     let (b, at) = spot_behind(&keys.leaves, leaf, likely, id);
-    write_at(&mut keys.leaves, b, at - 1, Key::of(id, number, place));
+    keys.leaves[b].write(at - 1, Key::of(id, number, place));
     keys.renewed[usize::from(id.site()) % SITES] = (b, at);
 }
 

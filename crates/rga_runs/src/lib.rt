@@ -10,7 +10,6 @@ mod key;
 mod keys;
 pub mod laws;
 mod leaf;
-mod leaves;
 mod marks;
 mod parent;
 mod rank;

@@ -5,7 +5,7 @@ use Rattle.rga_runs.specs.declared.leaf.Leaf.{Leaf}
 use Rattle.rga_runs.specs.Leaves.{keys_of}
 use Rattle.rga_runs.proofs.Chunks.{row, row-suc}
 use Rattle.rga_runs.proofs.Giving.{is_given}
-use Rattle.rga_runs.proofs.LeafRows.{length-keys}
+use Rattle.rga_runs.proofs.LeafRows.{length-keys, keys_len}
 use Rattle.rga_runs.proofs.keys.give_behind.Goals as goal
 
 -- ---- a leaf before those that have changed
@@ -32,16 +32,16 @@ give-requires-clause-within c =
     let xs = keys_of c.args.keys.now.leaves.items in
     let mid = c.split_full.new.keys in
     let leaf = same_leaf xs (keys_of mid.leaves.items) c.args.b c.split_full.ensures.before in
-    let next = c.len_of.ensures.len ∙ ap (λ (ls : List Leaf). length (get_or (keys_of ls) (c.args.b + 1) [])) c.deref.ensures.value in
-    omega (arith, c.max-from.ensures, next, c.split_full.ensures.free, c.requires.most, ap length leaf, c.requires.full)
+    let next = keys_len mid.leaves.items (c.args.b + 1) c.index.result.now (omega (arith, c.split_full.ensures.leaf, mid.leaves.ok)) c.index.ensures in
+    omega (arith, c.max-from.ensures, c.len.ensures, next, c.split_full.ensures.free, c.requires.most, ap length leaf, c.requires.full)
 
 pub give-requires-clause-room : goal.give-requires-clause-room
 give-requires-clause-room c =
     let xs = keys_of c.args.keys.now.leaves.items in
     let mid = c.split_full.new.keys in
     let leaf = same_leaf xs (keys_of mid.leaves.items) c.args.b c.split_full.ensures.before in
-    let next = c.len_of.ensures.len ∙ ap (λ (ls : List Leaf). length (get_or (keys_of ls) (c.args.b + 1) [])) c.deref.ensures.value in
-    omega (arith, c.max-from.ensures, next, ap length leaf, c.requires.full)
+    let next = keys_len mid.leaves.items (c.args.b + 1) c.index.result.now (omega (arith, c.split_full.ensures.leaf, mid.leaves.ok)) c.index.ensures in
+    omega (arith, c.max-from.ensures, c.len.ensures, next, ap length leaf, c.requires.full)
 
 pub returns : goal.returns
 returns c =
@@ -52,9 +52,9 @@ returns c =
     let ys = keys_of mid.leaves.items in
     let before = c.split_full.ensures.before in
     let leaf = same_leaf xs ys b before in
-    let next = c.len_of.ensures.len ∙ ap (λ (ls : List Leaf). length (get_or (keys_of ls) (b + 1) [])) c.deref.ensures.value in
+    let next = keys_len mid.leaves.items (c.args.b + 1) c.index.result.now (omega (arith, c.split_full.ensures.leaf, mid.leaves.ok)) c.index.ensures in
     let there : b + 1 < length ys = omega (arith, c.split_full.ensures.leaf, length-keys mid.leaves.items, mid.leaves.ok) in
-    let few : c.max-from.result < 256 = omega (arith, c.max-from.ensures, next, c.split_full.ensures.free, c.requires.most) in
+    let few : c.max-from.result < 256 = omega (arith, c.max-from.ensures, c.len.ensures, next, c.split_full.ensures.free, c.requires.most) in
     let h = is_given ys (keys_of c.give.new.keys.leaves.items) b c.max-from.result there (omega (arith, few, ap length leaf, c.requires.full)) c.give.ensures.leaves in
     record {
       leaf = omega (arith, c.give.ensures.len, c.split_full.ensures.leaf);

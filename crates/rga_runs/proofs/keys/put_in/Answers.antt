@@ -1,6 +1,6 @@
 -- The goals of `put_in` that are answered by hand.
 use Rattle.std.proofs.Common.{◌≡◌, ◌<◌, ◌≤◌, ◌∙◌, [], sym, ap, subst, length, get_or, arith}
-use Rattle.std.specs.Prelude.{insert}
+use Rattle.std.specs.Prelude.{insert, set}
 use Rattle.std.specs.List.Sorted.{IsNonDecreasingBy}
 use Rattle.std.proofs.lemmas.List.Sorted.{IsNonDecreasingBy-insert}
 use Rattle.std.proofs.lemmas.List.Edits.{length-insert}
@@ -10,7 +10,7 @@ use Rattle.rga_runs.specs.Keyed.{rank}
 use Rattle.rga_runs.specs.Leaves.{keys_of, all_keys, place_in}
 use Rattle.rga_runs.proofs.Chunks.{row, insert_row, at_within}
 use Rattle.rga_runs.proofs.Halves.{AreHalfFull-set}
-use Rattle.rga_runs.proofs.LeafRows.{length-keys}
+use Rattle.rga_runs.proofs.LeafRows.{length-keys, keys-set}
 use Rattle.rga_runs.proofs.keys.put_in.Goals as goal
 
 pub invariant_of-keys : goal.invariant_of-keys
@@ -26,12 +26,15 @@ invariant_of-keys c =
     let there : q < length xs = omega (arith, c.make_room-q.ensures.leaf, length-keys ls.items, ls.ok) in
     let within = c.make_room-q.ensures.within in
     let n = place_in (keys_of old) c.args.b c.args.at in
+    let leaves = set ls.items q c.insert.new.self in
+    let keys_is : keys_of leaves ≡ set xs q (insert x j key) =
+    keys-set ls.items q c.index_mut.result.now c.insert.new.self (λ l. insert l j key) (omega (arith, c.make_room-q.ensures.leaf, ls.ok)) c.index_mut.ensures.value c.insert.ensures in
     let small : n ≤ length (all_keys old) = at_within (keys_of old) c.args.b c.args.at (omega (arith, c.requires.leaf, length-keys old, c.args.keys.now.leaves.ok)) c.requires.within in
-    let row_is : all_keys c.put_at.new.leaves.items ≡ insert (all_keys old) n key = ap row c.put_at.ensures.keys ∙ insert_row xs q j key there within ∙ (λ i. insert (c.make_room-q.ensures.keys i) (c.make_room-q.ensures.place i) key) in
+    let row_is : all_keys leaves ≡ insert (all_keys old) n key = ap row keys_is ∙ insert_row xs q j key there within ∙ (λ i. insert (c.make_room-q.ensures.keys i) (c.make_room-q.ensures.place i) key) in
     record {
       rising = subst (IsNonDecreasingBy (λ (k : Key). rank k.first)) (sym row_is) (IsNonDecreasingBy-insert (λ (k : Key). rank k.first) (all_keys old) n key c.args.keys.now.rising small c.requires.below c.requires.above);
-      halves = subst AreHalfFull (sym c.put_at.ensures.keys) (AreHalfFull-set xs q (insert x j key) mid.halves (omega (arith, length-insert x j key within)));
-      memory = omega (arith, mid.memory, c.put_at.ensures.len, c.put_at.ensures.capacity);
+      halves = subst AreHalfFull (sym keys_is) (AreHalfFull-set xs q (insert x j key) mid.halves (omega (arith, length-insert x j key within)));
+      memory = mid.memory;
     }
 
 pub returns-clause-keys : goal.returns-clause-keys
@@ -42,4 +45,6 @@ returns-clause-keys c =
     let q = c.make_room-q.result.0 in
     let j = c.make_room-q.result.1 in
     let there : q < length xs = omega (arith, c.make_room-q.ensures.leaf, length-keys ls.items, ls.ok) in
-    ap row c.put_at.ensures.keys ∙ insert_row xs q j c.args.key there c.make_room-q.ensures.within ∙ (λ i. insert (c.make_room-q.ensures.keys i) (c.make_room-q.ensures.place i) c.args.key)
+    let keys_is : keys_of (set ls.items q c.insert.new.self) ≡ set xs q (insert (get_or xs q []) j c.args.key) =
+    keys-set ls.items q c.index_mut.result.now c.insert.new.self (λ l. insert l j c.args.key) (omega (arith, c.make_room-q.ensures.leaf, ls.ok)) c.index_mut.ensures.value c.insert.ensures in
+    ap row keys_is ∙ insert_row xs q j c.args.key there c.make_room-q.ensures.within ∙ (λ i. insert (c.make_room-q.ensures.keys i) (c.make_room-q.ensures.place i) c.args.key)

@@ -11,7 +11,7 @@ use Rattle.rga_runs.specs.Leaves.{keys_of, all_keys, place_in}
 use Rattle.rga_runs.proofs.Chunks.{row, at, at_within, set_row, length_set}
 use Rattle.rga_runs.proofs.Halves.{AreHalfFull-set}
 use Rattle.rga_runs.proofs.Homes.{told}
-use Rattle.rga_runs.proofs.LeafRows.{length-keys, found_some, found_first, renew_keys, rising_set}
+use Rattle.rga_runs.proofs.LeafRows.{length-keys, keys_at, keys-set, found_some, found_first, renew_keys, rising_set}
 use Rattle.rga_runs.proofs.keys.renew.Goals as goal
 
 -- where a key is found, there are leaves
@@ -49,8 +49,8 @@ overflow_sub-at c =
     let inside : j - 1 < length (get_or xs b []) = omega (arith, within, behind) in
     omega (arith, behind)
 
-pub write_at-requires-clause-within : goal.write_at-requires-clause-within
-write_at-requires-clause-within c =
+pub write-requires : goal.write-requires
+write-requires c =
     let k = c.args.keys.now in
     let ls = k.leaves in
     let xs = keys_of ls.items in
@@ -66,8 +66,8 @@ write_at-requires-clause-within c =
     let n = place_in xs b j in
     let some : 0 < n = found_some all id n c.requires.there.0 above c.requires.there.1 in
     let behind : 0 < j = behind_one xs b j some c.spot_behind-b.ensures.front in
-    let inside : j - 1 < length (get_or xs b []) = omega (arith, within, behind) in
-    inside
+    let here = keys_at ls.items b c.index_mut.result.now (omega (arith, c.spot_behind-b.ensures.leaf, ap length is)) c.index_mut.ensures.value in
+    omega (arith, within, behind, ap length here)
 
 pub invariant_of-keys : goal.invariant_of-keys
 invariant_of-keys c =
@@ -90,12 +90,15 @@ invariant_of-keys c =
     let key = c.of.result in
     let long : n ≤ length all = at_within xs b j there within in
     let last : at xs b (j - 1) ≡ n - 1 = omega (arith, behind) in
-    let row_is : all_keys c.write_at.new.leaves.items ≡ set all (n - 1) key = ap row c.write_at.ensures.keys ∙ set_row xs b (j - 1) key there inside ∙ ap (λ m. set all m key) last in
+    let leaves = set ls.items b c.write.new.self in
+    let keys_is : keys_of leaves ≡ set xs b (set (get_or xs b []) (j - 1) key) =
+    keys-set ls.items b c.index_mut.result.now c.write.new.self (λ l. set l (j - 1) key) (omega (arith, c.spot_behind-b.ensures.leaf, ap length is)) c.index_mut.ensures.value c.write.ensures in
+    let row_is : all_keys leaves ≡ set all (n - 1) key = ap row keys_is ∙ set_row xs b (j - 1) key there inside ∙ ap (λ m. set all m key) last in
     let same = λ (d : Key) (less : n - 1 < length all). ap rank c.of.ensures.first ∙ sym (ap rank (found_first all id n c.requires.there.0 d some long below above c.requires.there.1)) in
     record {
       rising = subst (IsNonDecreasingBy (λ (z : Key). rank z.first)) (sym row_is) (rising_set all (n - 1) key same k.rising);
-      halves = subst AreHalfFull (sym c.write_at.ensures.keys) (AreHalfFull-set xs b (set (get_or xs b []) (j - 1) key) k.halves (omega (arith, length_set (get_or xs b []) (j - 1) key)));
-      memory = omega (arith, k.memory, c.write_at.ensures.len, c.write_at.ensures.capacity);
+      halves = subst AreHalfFull (sym keys_is) (AreHalfFull-set xs b (set (get_or xs b []) (j - 1) key) k.halves (omega (arith, length_set (get_or xs b []) (j - 1) key)));
+      memory = k.memory;
     }
 
 pub returns-clause-looks : goal.returns-clause-looks
@@ -119,7 +122,10 @@ returns-clause-looks c = λ q fits.
     let key = c.of.result in
     let long : n ≤ length all = at_within xs b j there within in
     let last : at xs b (j - 1) ≡ n - 1 = omega (arith, behind) in
-    let row_is : all_keys c.write_at.new.leaves.items ≡ set all (n - 1) key = ap row c.write_at.ensures.keys ∙ set_row xs b (j - 1) key there inside ∙ ap (λ m. set all m key) last in
+    let leaves = set ls.items b c.write.new.self in
+    let keys_is : keys_of leaves ≡ set xs b (set (get_or xs b []) (j - 1) key) =
+    keys-set ls.items b c.index_mut.result.now c.write.new.self (λ l. set l (j - 1) key) (omega (arith, c.spot_behind-b.ensures.leaf, ap length is)) c.index_mut.ensures.value c.write.ensures in
+    let row_is : all_keys leaves ≡ set all (n - 1) key = ap row keys_is ∙ set_row xs b (j - 1) key there inside ∙ ap (λ m. set all m key) last in
     ap (λ l. look_in l q) row_is ∙ renew_keys all n key id c.args.number c.requires.there.0 c.of.ensures.first c.of.ensures.number some long below above c.requires.there.1 q fits
 
 pub returns-clause-len : goal.returns-clause-len
@@ -143,5 +149,8 @@ returns-clause-len c =
     let key = c.of.result in
     let long : n ≤ length all = at_within xs b j there within in
     let last : at xs b (j - 1) ≡ n - 1 = omega (arith, behind) in
-    let row_is : all_keys c.write_at.new.leaves.items ≡ set all (n - 1) key = ap row c.write_at.ensures.keys ∙ set_row xs b (j - 1) key there inside ∙ ap (λ m. set all m key) last in
+    let leaves = set ls.items b c.write.new.self in
+    let keys_is : keys_of leaves ≡ set xs b (set (get_or xs b []) (j - 1) key) =
+    keys-set ls.items b c.index_mut.result.now c.write.new.self (λ l. set l (j - 1) key) (omega (arith, c.spot_behind-b.ensures.leaf, ap length is)) c.index_mut.ensures.value c.write.ensures in
+    let row_is : all_keys leaves ≡ set all (n - 1) key = ap row keys_is ∙ set_row xs b (j - 1) key there inside ∙ ap (λ m. set all m key) last in
     ap length row_is ∙ length_set all (n - 1) key

@@ -6,7 +6,7 @@ use Rattle.std.proofs.lemmas.List.{map-set, set-append_left, set-append_right, g
 use Rattle.rga_runs.specs.declared.leaf.Leaf.{Leaf}
 use Rattle.rga_runs.specs.Leaves.{keys_of}
 use Rattle.rga_runs.proofs.LeafRows.{keys_there}
-use Rattle.rga_runs.proofs.leaves.give_at.Goals as goal
+use Rattle.rga_runs.proofs.keys.give_at.Goals as goal
 
 -- ---- two leaves, borrowed out of the parts of a row
 
