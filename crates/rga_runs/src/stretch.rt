@@ -80,13 +80,6 @@ impl Stretch {
         }
     }
 
-    /// Where its last character ends among all that were placed.
-    fn end(&self) -> usize
-        ensures { result ≡ self.now.start + self.now.count }
-    {
-        self.start as usize + self.len()
-    }
-
     /// The identifier of character k.
     pub fn id_at(&self, k: usize) -> Id
         requires { k < self.now.count }
@@ -189,17 +182,9 @@ impl Stretch {
     {
         let mut visible = 0;
         for i in 0..k {
-            visible += self.weight(i);
+            visible += weight(self.hides(i));
         }
         visible
-    }
-
-    /// How many visible characters character k counts as.
-    fn weight(&self, k: usize) -> usize
-        requires { k < 32 }
-        ensures { result ≡ (if is_odd (bits_from k self.now.hidden) then 0 else 1) }
-    {
-        weight(self.hides(k))
     }
 
     /// Which of its characters is visible character n of it.
@@ -214,11 +199,11 @@ impl Stretch {
         }
         let mut left = n;
         for k in 0..self.len() {
-            let weight = self.weight(k);
-            if left < weight {
+            let here = weight(self.hides(k));
+            if left < here {
                 return k;
             }
-            left -= weight;
+            left -= here;
         }
         unreachable!()
     }
@@ -262,12 +247,18 @@ impl Stretch {
         ensures few { OnTrue result (self.now.count < 24) }
         ensures bits { OnTrue result (bits_from self.now.count self.now.hidden ≡ 0) }
     {
-        if self.len() == LONG || hidden || start != self.end() || self.marks_behind() {
+        if hidden
+            || id.site() != self.first.site()
+            || id.counter() as usize != self.next_counter()
+        {
             return false;
         }
         match parent {
             Place::Root => false,
-            Place::After(above) => self.ends_in(*above) && self.is_next(id),
+            Place::After(above) => match self.room_behind(*above, start) {
+                Some(most) => most > 0,
+                None => false,
+            },
         }
     }
 
@@ -278,7 +269,10 @@ impl Stretch {
         ensures few { IfSome result (λ n. self.now.count + n ≤ 24) }
         ensures bits { IfSome result (λ n. bits_from self.now.count self.now.hidden ≡ 0) }
     {
-        if end != self.end() || self.marks_behind() || !self.ends_in(last) {
+        if last.site() != self.first.site() || last.counter() as usize + 1 != self.next_counter() {
+            return None;
+        }
+        if end != self.start as usize + self.len() || self.marks_behind() {
             return None;
         }
         Some(LONG - self.len())
@@ -290,20 +284,6 @@ impl Stretch {
         ensures { OnFalse result (bits_from self.now.count self.now.hidden ≡ 0) }
     {
         self.hidden.bits() >> self.count != 0
-    }
-
-    /// Whether this is the identifier of its last character.
-    fn ends_in(&self, id: Id) -> bool
-        ensures { OnTrue result (id ≡ later self.now.first (self.now.count - 1)) }
-    {
-        id.site() == self.first.site() && id.counter() as usize + 1 == self.next_counter()
-    }
-
-    /// Whether this is the identifier of the character after its last one.
-    fn is_next(&self, id: Id) -> bool
-        ensures { OnTrue result (id ≡ later self.now.first self.now.count) }
-    {
-        id.site() == self.first.site() && id.counter() as usize == self.next_counter()
     }
 
     /// The counter after that of its last character.

@@ -1,7 +1,7 @@
 -- The goals of `visible_at` that are answered by hand.
 use Rattle.std.proofs.Common.{◌≡◌, suc, ◌+◌, ◌∙◌, ap, arith}
 use Rattle.rga_runs.specs.Typed.{unset, is_odd, bits_from}
-use Rattle.rga_runs.proofs.Bits.{unset-more, unset-none, bits_from-none, weighs}
+use Rattle.rga_runs.proofs.Bits.{weigh, unset-more, unset-none, bits_from-none, weighs}
 use Rattle.rga_runs.proofs.stretch.Stretch.visible_at.Goals as goal
 
 pub loop-k-preserved : goal.loop-k-preserved
@@ -9,10 +9,10 @@ loop-k-preserved c =
     let bits = c.args.self.now.hidden in
     let k = c.loop-k.k in
     let one_more : k + 1 ≡ suc k = omega arith in
-    omega (arith, c.loop-k.invariant, c.weight-weight.ensures, unset-more k bits, ap (λ n. unset n bits) one_more, c.if-left-weight.false)
+    omega (arith, c.loop-k.invariant, c.weight-here.ensures ∙ ap weigh c.hides.ensures, unset-more k bits, ap (λ n. unset n bits) one_more, c.if-left-here.false)
 
-pub returns-then-left-weight-clause-visible : goal.returns-then-left-weight-clause-visible
-returns-then-left-weight-clause-visible c = weighs (is_odd (bits_from c.loop-k.k c.args.self.now.hidden)) (omega (arith, c.if-left-weight.true, c.weight-weight.ensures))
+pub returns-then-left-here-clause-visible : goal.returns-then-left-here-clause-visible
+returns-then-left-here-clause-visible c = weighs (is_odd (bits_from c.loop-k.k c.args.self.now.hidden)) (omega (arith, c.if-left-here.true, c.weight-here.ensures ∙ ap weigh c.hides.ensures))
 
 pub returns-then-bits-eq0 : goal.returns-then-bits-eq0
 returns-then-bits-eq0 c =
