@@ -19,7 +19,9 @@ pub fn begun_by(stretches: &[Stretch], hint: usize, first: Id) -> Option<usize>
     ensures first { IfSome result (λ j. (d : Kept) → (get_or stretches.now j d).first ≡ first) }
     ensures absent { IfNone result (All (BeginsElsewhere first) stretches.now) }
 {
-    let likely = sought_from(stretches, hint, first);
+    let from = hint.min(stretches.len());
+    let behind = &stretches[from..];
+    let likely = from + behind.iter().take_while(|s| first != s.first).count();
     if likely < stretches.len() && stretches[likely].first == first {
         return Some(likely);
     }
@@ -31,16 +33,7 @@ pub fn begun_by(stretches: &[Stretch], hint: usize, first: Id) -> Option<usize>
     None
 }
 
-/// Where the first stretch from a place on stands that begins with an identifier, or the end.
-fn sought_from(stretches: &[Stretch], hint: usize, first: Id) -> usize {
-    let from = hint.min(stretches.len());
-    from + stretches[from..]
-        .iter()
-        .take_while(|s| first != s.first)
-        .count()
-}
-
-/// Where element j of so many stands: its stretch, and its place there.
+/// Where element j of so many stands: its stretch, and its place there. It is sought from the end to which it is nearer.
 pub fn spot_of(stretches: &[Stretch], count: usize, j: usize) -> (usize, usize)
     requires count { count ≡ count_in stretches.now }
     requires there { j < count }
@@ -48,7 +41,11 @@ pub fn spot_of(stretches: &[Stretch], count: usize, j: usize) -> (usize, usize)
     ensures within { (d : Kept) → result.1 < (get_or stretches.now result.0 d).count }
     ensures place { count_in (take result.0 stretches.now) + result.1 ≡ j }
 {
-    let (from, rest) = pass(stretches, count, j);
+    let (from, rest) = if j < count / 2 {
+        pass_front(stretches, j)
+    } else {
+        pass_back(stretches, count - j)
+    };
     let mut left = rest;
     for p in from..stretches.len() {
         let count = stretches[p].len();
@@ -58,21 +55,6 @@ pub fn spot_of(stretches: &[Stretch], count: usize, j: usize) -> (usize, usize)
         left -= count;
     }
     unreachable!()
-}
-
-/// Passes stretches in front of element j of so many, some at once, from the end to which it is nearer: how many are passed, and how
-/// many of the j elements before it are left.
-fn pass(stretches: &[Stretch], count: usize, j: usize) -> (usize, usize)
-    requires count { count ≡ count_in stretches.now }
-    requires there { j < count }
-    ensures there { result.0 ≤ length stretches.now }
-    ensures before { count_in (take result.0 stretches.now) + result.1 ≡ j }
-{
-    if j < count / 2 {
-        pass_front(stretches, j)
-    } else {
-        pass_back(stretches, count - j)
-    }
 }
 
 /// Passes stretches from the end, some at once, as long as the first of the last n elements isn't among them: how many are before
