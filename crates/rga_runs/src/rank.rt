@@ -32,38 +32,21 @@ pub fn not_above(keys: &[Key], id: Id) -> usize
     ensures below { (i : ℕ) (d : Kept) → i < result → rank (get_or keys.now i d).first ≤ rank id }
     ensures above { (i : ℕ) (d : Kept) → result ≤ i → i < length keys.now → rank id < rank (get_or keys.now i d).first }
 {
+    let Some(end) = keys.last() else {
+        return 0;
+    };
     let last = rank_of(id);
-    let dense = dense_key(keys, last);
+    let greatest = rank_of(end.first);
+    let behind = keys.len() - 1;
+    let dense = behind.saturating_sub(greatest.saturating_sub(last) as usize);
     if ends_not_above(keys, dense, last) {
         return dense + 1;
     }
-    if let Some(near) = ends_near(keys, even_key(keys, last), last) {
+    let even = share(rank_of(keys[0].first), greatest, behind, last);
+    if let Some(near) = ends_near(keys, even, last) {
         return near + 1;
     }
     keys.partition_point(|k| rank_of(k.first) <= last)
-}
-
-/// Where the last key would stand that isn't above a number, if the numbers of those behind it rose by one.
-fn dense_key(keys: &[Key], last: u64) -> usize {
-    match keys.last() {
-        Some(end) => {
-            (keys.len() - 1).saturating_sub(rank_of(end.first).saturating_sub(last) as usize)
-        }
-        None => 0,
-    }
-}
-
-/// Where that key would stand if the numbers of all rose evenly.
-fn even_key(keys: &[Key], last: u64) -> usize {
-    match keys.last() {
-        Some(end) => share(
-            rank_of(keys[0].first),
-            rank_of(end.first),
-            keys.len() - 1,
-            last,
-        ),
-        None => 0,
-    }
 }
 
 /// Which key isn't above a number, where the next one is, if it is key j or one beside that.

@@ -10,12 +10,12 @@ use Rattle.rga_runs.proofs.rank.not_above.Goals as goal
 pub returns-then-ends_not_above-clause-below : goal.returns-then-ends_not_above-clause-below
 returns-then-ends_not_above-clause-below c = λ i d less.
     let e = c.if-ends_not_above.ensures in
-    omega (arith, c.requires i c.dense_key-dense.result d (omega (arith, less)) e.there, e.below d, c.rank_of-last.ensures)
+    omega (arith, c.requires i c.saturating_sub-dense.result d (omega (arith, less)) e.there, e.below d, c.rank_of-last.ensures)
 
 pub returns-then-ends_not_above-clause-above : goal.returns-then-ends_not_above-clause-above
 returns-then-ends_not_above-clause-above c = λ i d from less.
     let e = c.if-ends_not_above.ensures in
-    omega (arith, c.requires (c.dense_key-dense.result + 1) i d from less, e.above d (omega (arith, from, less)), c.rank_of-last.ensures)
+    omega (arith, c.requires (c.saturating_sub-dense.result + 1) i d from less, e.above d (omega (arith, from, less)), c.rank_of-last.ensures)
 
 pub returns-clause-below : goal.returns-clause-below
 returns-clause-below c = λ i d less.
