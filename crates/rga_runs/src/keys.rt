@@ -222,17 +222,8 @@ fn ends_site(leaves: &[Leaf], b: usize, at: usize) -> bool
     if at < HALF || b + 1 >= leaves.len() {
         return false;
     }
-    begins_site(&leaves[b].keys, at)
-}
-
-/// Whether a key is of another site than the one before it.
-fn begins_site(keys: &[Key], at: usize) -> bool
-    ensures { OnTrue result (at < length keys.now) }
-{
-    if at == 0 || at >= keys.len() {
-        return false;
-    }
-    keys[at].first.site() != keys[at - 1].first.site()
+    let keys = &leaves[b].keys;
+    at < keys.len() && keys[at].first.site() != keys[at - 1].first.site()
 }
 
 /// Gives the keys of a full leaf behind a place to the next leaf, as many as it has room for. If that is full, it is split first.
