@@ -72,7 +72,8 @@ fn place_for(row: &mut Row, id: Id, parent: &Place) -> (usize, usize)
     passed_from(&row.blocks, &row.bounds, b, j, id)
 }
 
-/// The spot from which on greater stretches are passed: behind a greater sibling that was put in last, or behind the parent.
+/// The spot from which on greater stretches are passed: behind a greater sibling that was put in last, or behind the parent and greater
+/// elements of its stretch.
 fn start(row: &mut Row, id: Id, parent: &Place) -> (usize, usize)
     requires some { 0 < vec_len row.old.blocks }
     requires parent { IsPlaced parent.now (stretches_in row.old) }
@@ -93,9 +94,12 @@ fn start(row: &mut Row, id: Id, parent: &Place) -> (usize, usize)
     ensures indexed { IsIndexed row.new }
     ensures room { TakesRoom 1 row.old row.new }
 {
-    match behind_sibling(row, id, parent) {
-        Some(spot) => spot,
-        None => behind_parent(row, id, parent),
+    if let Some(spot) = behind_sibling(row, id, parent) {
+        return spot;
+    }
+    match parent {
+        Place::Root => (0, 0),
+        Place::After(above) => behind(row, *above, id),
     }
 }
 
@@ -121,33 +125,6 @@ fn behind_sibling(row: &Row, id: Id, parent: &Place) -> Option<(usize, usize)>
         Some((b, j + 1))
     } else {
         None
-    }
-}
-
-/// The spot right behind the parent, or behind greater elements of its stretch: from there on greater stretches are passed.
-fn behind_parent(row: &mut Row, id: Id, parent: &Place) -> (usize, usize)
-    requires some { 0 < vec_len row.old.blocks }
-    requires parent { IsPlaced parent.now (stretches_in row.old) }
-    requires apart { AreApart (stretches_in row.old) }
-    requires indexed { IsIndexed row.old }
-    requires room { HasRoom row.old 1 }
-    ensures block { result.0 < vec_len row.new.blocks }
-    ensures within { result.1 ≤ length (get_or (items_of row.new.blocks.items) result.0 []) }
-    ensures place { (chars : List ℕ) → are_stored (length chars) (stretches_in row.old) ≡ true
-        → let p = at_spot (items_of row.new.blocks.items) result.0 result.1 in
-        length (joined (take p (parts_in chars (stretches_in row.new))))
-        + prefix_len (λ e. is_lt (id_cmp id e.id)) (joined (drop p (parts_in chars (stretches_in row.new))))
-        ≡ place_of parent.now id (elements_in chars (stretches_in row.old)) }
-    ensures elements { (chars : List ℕ) → elements_in chars (stretches_in row.new) ≡ elements_in chars (stretches_in row.old) }
-    ensures stored { (n : ℕ) → are_stored n (stretches_in row.old) ≡ true → are_stored n (stretches_in row.new) ≡ true }
-    ensures outside { All (IsOutside id) (stretches_in row.old) → All (IsOutside id) (stretches_in row.new) }
-    ensures apart { AreApart (stretches_in row.new) }
-    ensures indexed { IsIndexed row.new }
-    ensures room { TakesRoom 1 row.old row.new }
-{
-    match parent {
-        Place::Root => (0, 0),
-        Place::After(above) => behind(row, *above, id),
     }
 }
 
