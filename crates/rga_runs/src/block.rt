@@ -10,6 +10,7 @@ ghost use Rattle.rga_runs.specs.Typed.{is_odd, bits_from};
 ghost use Rattle.rga_runs.specs.Blocks.{none_below};
 
 use crate::cut::FULL;
+use crate::lists::put_in;
 use crate::search::{count_all, count_visible};
 use crate::stretch::Stretch;
 use bg_types::{Id, Place};
@@ -169,23 +170,6 @@ fn part_in(stretches: &mut Vec<Stretch>, j: usize, k: usize) -> Id
     first
 }
 
-/// Puts a stretch into a list that has memory for it. At the end nothing moves.
-fn put_in(stretches: &mut Vec<Stretch>, at: usize, new: Stretch)
-    requires within { at ≤ vec_len stretches.old }
-    requires few { vec_len stretches.old < 256 }
-    requires room { vec_len stretches.old < vec_capacity stretches.old }
-    ensures items { stretches.new.items ≡ insert stretches.old.items at new }
-    ensures len { vec_len stretches.new ≡ vec_len stretches.old + 1 }
-    ensures capacity { vec_capacity stretches.new ≡ vec_capacity stretches.old }
-{
-    if at == stretches.len() {
-        stretches.push_reserved(new);
-    } else {
-        // The remainder is the index: by it compiled code sees no wrap behind it, and moves all in one piece.
-        stretches.insert(at % FULL, new).unwrap();
-    }
-}
-
 /// The least identifier with which a stretch begins.
 fn least_of(stretches: &[Stretch]) -> Id
     requires { 0 < length stretches.now }
@@ -211,12 +195,4 @@ pub fn is_below(a: Id, b: Id) -> bool
     ensures { result ≡ is_lt (id_cmp a b) }
 {
     a.counter() < b.counter() || (a.counter() == b.counter() && a.site() < b.site())
-}
-
-/// An empty list with memory for a block.
-#[derive(Drop)]
-pub struct Spare {
-    pub stretches: Vec<Stretch>,
-    ghost empty: { stretches.items ≡ [] },
-    ghost room: { 256 ≤ vec_capacity stretches },
 }

@@ -11,7 +11,8 @@ ghost use Rattle.rga_runs.specs.Leaves.{keys_of, all_keys, place_in};
 
 use crate::cut::{BEYOND, FULL, HALF, kept_of};
 use crate::key::Key;
-use crate::leaf::{Leaf, SpareLeaf};
+use crate::leaf::Leaf;
+use crate::lists::{Spare, add_spares};
 use crate::rank::{ends_not_above, not_above, rank_of, share};
 use bg_types::{Id, Memory};
 use std::alloc::Global;
@@ -23,7 +24,7 @@ const SITES: usize = 8;
 #[derive(Drop)]
 pub struct Keys {
     pub leaves: Vec<Leaf>,
-    pub spares: Vec<SpareLeaf>,
+    pub spares: Vec<Spare<Key>>,
     /// The leaf into which the last key of a site was put. The next one is often put behind that.
     recent: [usize; SITES],
     /// A leaf, and a place there, behind the last key of a site that was renewed. The next one often stands there.
@@ -56,36 +57,6 @@ pub fn reserve(keys: &mut Keys, alloc: Global, more: usize) -> Result<(), Memory
     keys.spares.reserve(more)?;
     keys.leaves.reserve(keys.spares.capacity())?;
     add_spares(&mut keys.spares, alloc, more)
-}
-
-/// Makes memory for `more` more leaves, or gives back what it made.
-fn add_spares(spares: &mut Vec<SpareLeaf>, alloc: Global, more: usize) -> Result<(), Memory>
-    requires { vec_len spares.old + more ≤ vec_capacity spares.old }
-    ensures ok { OnOk result (vec_len spares.new ≡ vec_len spares.old + more) }
-    ensures kept { vec_len spares.old ≤ vec_len spares.new }
-    ensures within { vec_len spares.new ≤ vec_capacity spares.old }
-    ensures err { OnErr result (vec_len spares.new ≡ vec_len spares.old) }
-{
-    let had = spares.len();
-    let made = push_spares(spares, alloc, more);
-    if made.is_err() {
-        spares.truncate(had);
-    }
-    made
-}
-
-/// Makes memory for `more` more leaves, or for some of them.
-fn push_spares(spares: &mut Vec<SpareLeaf>, alloc: Global, more: usize) -> Result<(), Memory>
-    requires { vec_len spares.old + more ≤ vec_capacity spares.old }
-    ensures ok { OnOk result (vec_len spares.new ≡ vec_len spares.old + more) }
-    ensures kept { vec_len spares.old ≤ vec_len spares.new }
-    ensures within { vec_len spares.new ≤ vec_capacity spares.old }
-{
-    for _ in 0..more {
-        let keys = Vec::with_capacity(alloc, FULL)?;
-        spares.push(SpareLeaf { keys })?;
-    }
-    Ok(())
 }
 
 /// The key of the stretch that an identifier may be of.
@@ -151,7 +122,7 @@ fn begin(keys: &mut Keys, key: Key)
     ensures room { vec_len keys.new.leaves + vec_len keys.new.spares ≡ vec_len keys.old.leaves + vec_len keys.old.spares }
     ensures spares { vec_len keys.old.spares ≤ vec_len keys.new.spares + 1 }
 {
-    let memory = keys.spares.pop().unwrap().keys;
+    let memory = keys.spares.pop().unwrap().list;
     keys.leaves.push(Leaf::lone(memory, key)).unwrap();
 }
 
@@ -304,7 +275,7 @@ fn split(keys: &mut Keys, b: usize, cut: usize)
     ensures room { vec_len keys.new.leaves + vec_len keys.new.spares ≡ vec_len keys.old.leaves + vec_len keys.old.spares }
     ensures spares { vec_len keys.new.spares + 1 ≡ vec_len keys.old.spares }
 {
-    let memory = keys.spares.pop().unwrap().keys;
+    let memory = keys.spares.pop().unwrap().list;
     let upper = keys.leaves[b].split(cut, memory);
     keys.leaves.insert((b + 1) % BEYOND, upper).unwrap();
 }

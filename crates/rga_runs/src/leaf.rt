@@ -3,8 +3,8 @@
 ghost use Rattle.std.specs.Prelude.{◌≡◌, ◌+◌, ◌<◌, ◌≤◌, ◌++◌, ◌∷◌, [], length, take, drop, insert, slice_set, vec_len, vec_capacity};
 ghost use Rattle.rga_runs.specs.Keyed.{begins};
 
-use crate::cut::FULL;
 use crate::key::Key;
+use crate::lists::put_in;
 use crate::rank::rank_of;
 
 /// At least one key and at most 256, with memory for 256.
@@ -17,14 +17,6 @@ pub struct Leaf {
     ghost few: { vec_len keys ≤ 256 },
     ghost room: { 256 ≤ vec_capacity keys },
     ghost begun: { front ≡ begins keys.items },
-}
-
-/// An empty list with memory for a leaf.
-#[derive(Drop)]
-pub struct SpareLeaf {
-    pub keys: Vec<Key>,
-    ghost empty: { keys.items ≡ [] },
-    ghost room: { 256 ≤ vec_capacity keys },
 }
 
 impl Leaf {
@@ -92,23 +84,6 @@ impl Leaf {
         put_in_front(&mut next.keys, &self.keys[at..]);
         next.front = rank_of(next.keys[0].first);
         self.keys.truncate(at);
-    }
-}
-
-/// Puts a key into a list that has memory for it. At the end nothing moves.
-fn put_in(keys: &mut Vec<Key>, at: usize, key: Key)
-    requires within { at ≤ vec_len keys.old }
-    requires few { vec_len keys.old < 256 }
-    requires room { vec_len keys.old < vec_capacity keys.old }
-    ensures items { keys.new.items ≡ insert keys.old.items at key }
-    ensures len { vec_len keys.new ≡ vec_len keys.old + 1 }
-    ensures capacity { vec_capacity keys.new ≡ vec_capacity keys.old }
-{
-    if at == keys.len() {
-        keys.push_reserved(key);
-    } else {
-        // The remainder is the index: by it compiled code sees no wrap behind it, and moves all in one piece.
-        keys.insert(at % FULL, key).unwrap();
     }
 }
 

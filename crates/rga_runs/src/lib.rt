@@ -10,6 +10,7 @@ mod key;
 mod keys;
 pub mod laws;
 mod leaf;
+mod lists;
 mod marks;
 mod parent;
 mod rank;

@@ -9,11 +9,12 @@ ghost use Rattle.rga_runs.specs.Blocks.{at_spot};
 ghost use Rattle.rga_runs.specs.BlockRows.{items_of, numbers_of};
 ghost use Rattle.rga_runs.specs.Indexed.{stretches_in, stretches_for, IsHome, AreKnown, IsIndexed, HasRoom, HasPlace};
 
-use crate::block::{Block, Spare};
+use crate::block::Block;
 use crate::bounds::{self, NEIGHBOURS};
 use crate::counts;
 use crate::cut::{BEYOND, FULL, kept_of, missing};
 use crate::keys::{self, Keys};
+use crate::lists::add_spares;
 use crate::row::Row;
 use crate::stretch::Stretch;
 use bg_types::Memory;
@@ -67,7 +68,7 @@ fn split(row: &mut Row, q: usize, cut: usize)
     ensures indexed { IsIndexed row.new }
     ensures room { (n : ℕ) → HasRoom row.old (n + 1) → HasPlace row.new n }
 {
-    let lower = row.spares.pop().unwrap().stretches;
+    let lower = row.spares.pop().unwrap().list;
     let number = row.blocks.len();
     split_at(&mut row.blocks, q, cut, lower, number);
     rehome(&mut row.keys, &row.blocks[q + 1].stretches, number);
@@ -166,36 +167,4 @@ pub fn make_memory(row: &mut Row, alloc: Global, n: usize) -> Result<(), Memory>
     row.bounds.reserve(row.spares.capacity() / NEIGHBOURS + 1)?;
     row.sums.reserve(row.spares.capacity() / NEIGHBOURS + 1)?;
     add_spares(&mut row.spares, alloc, more)
-}
-
-/// Makes memory for `more` more blocks, or gives back what it made.
-fn add_spares(spares: &mut Vec<Spare>, alloc: Global, more: usize) -> Result<(), Memory>
-    requires { vec_len spares.old + more ≤ vec_capacity spares.old }
-    ensures ok { OnOk result (vec_len spares.new ≡ vec_len spares.old + more) }
-    ensures kept { vec_len spares.old ≤ vec_len spares.new }
-    ensures most { vec_len spares.new ≤ vec_len spares.old + more }
-    ensures within { vec_len spares.new ≤ vec_capacity spares.old }
-    ensures err { OnErr result (vec_len spares.new ≡ vec_len spares.old) }
-{
-    let had = spares.len();
-    let made = push_spares(spares, alloc, more);
-    if made.is_err() {
-        spares.truncate(had);
-    }
-    made
-}
-
-/// Makes memory for `more` more blocks, or for some of them.
-fn push_spares(spares: &mut Vec<Spare>, alloc: Global, more: usize) -> Result<(), Memory>
-    requires { vec_len spares.old + more ≤ vec_capacity spares.old }
-    ensures ok { OnOk result (vec_len spares.new ≡ vec_len spares.old + more) }
-    ensures kept { vec_len spares.old ≤ vec_len spares.new }
-    ensures most { vec_len spares.new ≤ vec_len spares.old + more }
-    ensures within { vec_len spares.new ≤ vec_capacity spares.old }
-{
-    for _ in 0..more {
-        let stretches = Vec::with_capacity(alloc, FULL)?;
-        spares.push(Spare { stretches })?;
-    }
-    Ok(())
 }

@@ -12,11 +12,12 @@ ghost use Rattle.rga_runs.specs.Keyed.{look_in};
 ghost use Rattle.rga_runs.specs.KeyRows.{keys_in};
 ghost use Rattle.rga_runs.specs.Indexed.{stretches_in, IsIndexed, HasRoom, TakesRoom};
 
-use crate::block::{Block, Spare};
+use crate::block::Block;
 use crate::key::Key;
 use crate::keys::{self, Keys};
+use crate::lists::Spare;
 use crate::room::make_room;
-use crate::stretch::weight;
+use crate::stretch::{Stretch, weight};
 use crate::{bounds, counts, search};
 use bg_types::{Id, Place};
 
@@ -24,7 +25,7 @@ use bg_types::{Id, Place};
 #[derive(Drop)]
 pub struct Row {
     pub blocks: Vec<Block>,
-    pub spares: Vec<Spare>,
+    pub spares: Vec<Spare<Stretch>>,
     pub keys: Keys,
     pub places: Vec<usize>,
     /// How many stretches the blocks have.
@@ -169,7 +170,7 @@ pub fn put_first(row: &mut Row, id: Id, parent: Place, start: usize, hidden: boo
     ensures indexed { IsIndexed row.new }
     ensures room { TakesRoom 1 row.old row.new }
 {
-    let stretches = row.spares.pop().unwrap().stretches;
+    let stretches = row.spares.pop().unwrap().list;
     let block = Block::lone(stretches, 0, id, parent, start, hidden);
     row.blocks.push(block).unwrap();
     row.places.push(0).unwrap();

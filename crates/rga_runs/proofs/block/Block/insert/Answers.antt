@@ -22,7 +22,7 @@ pub invariant_of-self-clause-counted : goal.invariant_of-self-clause-counted
 invariant_of-self-clause-counted c =
     let ss = c.args.self.now.stretches.items in
     let new = c.lone-new.result in
-    let items : c.put_in.new.stretches.items ≡ insert ss c.args.j new = c.put_in.ensures.items in
+    let items : c.put_in.new.list.items ≡ insert ss c.args.j new = c.put_in.ensures.items in
     let is = c.args.self.now.counted in
     omega (arith, is, ap count_in items, sum-insert (λ (s : Stretch). s.count) ss c.args.j new, c.lone-new.ensures.count)
 
@@ -30,7 +30,7 @@ pub invariant_of-self-clause-visible_are : goal.invariant_of-self-clause-visible
 invariant_of-self-clause-visible_are c =
     let ss = c.args.self.now.stretches.items in
     let new = c.lone-new.result in
-    let items : c.put_in.new.stretches.items ≡ insert ss c.args.j new = c.put_in.ensures.items in
+    let items : c.put_in.new.list.items ≡ insert ss c.args.j new = c.put_in.ensures.items in
     let is = c.args.self.now.visible_are in
     omega (arith, is, ap visible_in items, sum-insert visible_of ss c.args.j new, c.visible.ensures)
 
@@ -38,7 +38,7 @@ pub invariant_of-self-clause-low : goal.invariant_of-self-clause-low
 invariant_of-self-clause-low c =
     let ss = c.args.self.now.stretches.items in
     let new = c.lone-new.result in
-    let items : c.put_in.new.stretches.items ≡ insert ss c.args.j new = c.put_in.ensures.items in
+    let items : c.put_in.new.list.items ≡ insert ss c.args.j new = c.put_in.ensures.items in
     let was = c.args.self.now.low in
     let low = low_lesser c.args.self.now.least c.args.id ss was in
     let m = cond (is_lt (id_cmp c.args.id c.args.self.now.least)) c.args.id c.args.self.now.least in
@@ -50,6 +50,6 @@ pub returns-clause-items : goal.returns-clause-items
 returns-clause-items c =
     let ss = c.args.self.now.stretches.items in
     let new = c.lone-new.result in
-    let items : c.put_in.new.stretches.items ≡ insert ss c.args.j new = c.put_in.ensures.items in
+    let items : c.put_in.new.list.items ≡ insert ss c.args.j new = c.put_in.ensures.items in
     let e = c.lone-new.ensures in
     (new, record { start_is = e.start; count = e.count; first = e.first; parent_is = e.parent; hidden_is = e.hidden }, items)
