@@ -43,38 +43,15 @@ pub fn put(row: &mut Row, id: Id, parent: Place, start: usize, hidden: bool)
     if row.blocks.is_empty() {
         put_first(row, id, parent, start, hidden);
     } else {
-        let (b, j) = place_for(row, id, &parent);
-        put_at_spot(row, b, j, id, parent, start, hidden);
+        let (b, j) = beginning(row, id, &parent);
+        let (q, at) = passed_from(&row.blocks, &row.bounds, b, j, id);
+        put_at_spot(row, q, at, id, parent, start, hidden);
     }
 }
 
-/// The spot where an element goes. A stretch that has that place inside is parted there.
-fn place_for(row: &mut Row, id: Id, parent: &Place) -> (usize, usize)
-    requires some { 0 < vec_len row.old.blocks }
-    requires parent { IsPlaced parent.now (stretches_in row.old) }
-    requires apart { AreApart (stretches_in row.old) }
-    requires indexed { IsIndexed row.old }
-    requires room { HasRoom row.old 1 }
-    ensures block { result.0 < vec_len row.new.blocks }
-    ensures within { result.1 ≤ length (get_or (items_of row.new.blocks.items) result.0 []) }
-    ensures place { (chars : List ℕ) → are_stored (length chars) (stretches_in row.old) ≡ true
-        → KeepsWalk (elements_in chars (stretches_in row.old))
-        → length (joined (take (at_spot (items_of row.new.blocks.items) result.0 result.1) (parts_in chars (stretches_in row.new))))
-        ≡ place_of parent.now id (elements_in chars (stretches_in row.old)) }
-    ensures elements { (chars : List ℕ) → elements_in chars (stretches_in row.new) ≡ elements_in chars (stretches_in row.old) }
-    ensures stored { (n : ℕ) → are_stored n (stretches_in row.old) ≡ true → are_stored n (stretches_in row.new) ≡ true }
-    ensures outside { All (IsOutside id) (stretches_in row.old) → All (IsOutside id) (stretches_in row.new) }
-    ensures apart { AreApart (stretches_in row.new) }
-    ensures indexed { IsIndexed row.new }
-    ensures room { TakesRoom 1 row.old row.new }
-{
-    let (b, j) = start(row, id, parent);
-    passed_from(&row.blocks, &row.bounds, b, j, id)
-}
-
 /// The spot from which on greater stretches are passed: behind a greater sibling that was put in last, or behind the parent and greater
-/// elements of its stretch.
-fn start(row: &mut Row, id: Id, parent: &Place) -> (usize, usize)
+/// elements of its stretch. A stretch that has it inside is parted there.
+fn beginning(row: &mut Row, id: Id, parent: &Place) -> (usize, usize)
     requires some { 0 < vec_len row.old.blocks }
     requires parent { IsPlaced parent.now (stretches_in row.old) }
     requires apart { AreApart (stretches_in row.old) }

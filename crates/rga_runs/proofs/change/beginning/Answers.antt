@@ -1,10 +1,10 @@
--- The goals of `start` that are answered by hand.
+-- The goals of `beginning` that are answered by hand.
 use Rattle.std.proofs.Common.{sym, ap}
 use Rattle.rga_tree.specs.Row.{place_of}
 use Rattle.rga_runs.specs.Stretches.{elements_in}
 use Rattle.rga_runs.specs.Indexed.{stretches_in}
 use Rattle.rga_runs.proofs.Taken.{none_taken}
-use Rattle.rga_runs.proofs.change.start.Goals as goal
+use Rattle.rga_runs.proofs.change.beginning.Goals as goal
 
 pub returns-in-Some-clause-room : goal.returns-in-Some-clause-room
 returns-in-Some-clause-room c = none_taken 1 c.args.row.now
