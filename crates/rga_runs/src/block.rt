@@ -116,7 +116,10 @@ impl Block {
             × (rest.first ≡ result) × (self.new.stretches.items ≡ insert (slice_set self.old.stretches.items j s) (j + 1) rest) }
         ensures number { self.new.number ≡ self.old.number }
     {
-        part_in(&mut self.stretches, j, k)
+        let rest = self.stretches[j].part(k);
+        let first = rest.first;
+        put_in(&mut self.stretches, j + 1, rest);
+        first
     }
 
     /// Moves the stretches of a full block from one on to a new block. The new memory is for those that stay.
@@ -149,25 +152,6 @@ impl Block {
             number,
         }
     }
-}
-
-/// Parts stretch j before its character k, and answers with which identifier the rest begins. There is memory for one more.
-fn part_in(stretches: &mut Vec<Stretch>, j: usize, k: usize) -> Id
-    requires there { j < vec_len stretches.old }
-    requires some { 0 < k }
-    requires within { (d : Kept) → k < (get_or stretches.old.items j d).count }
-    requires few { vec_len stretches.old < 256 }
-    requires room { vec_len stretches.old < vec_capacity stretches.old }
-    ensures items { (d : Kept) → (s : Kept) × (rest : Kept) × IsParted (get_or stretches.old.items j d) s rest k
-        × (rest.first ≡ result) × (stretches.new.items ≡ insert (slice_set stretches.old.items j s) (j + 1) rest) }
-    ensures len { vec_len stretches.new ≡ vec_len stretches.old + 1 }
-    ensures capacity { vec_capacity stretches.new ≡ vec_capacity stretches.old }
-{
-    let parent = stretches[j].parent_of(k);
-    let rest = stretches[j].part(k, parent);
-    let first = rest.first;
-    put_in(stretches, j + 1, rest);
-    first
 }
 
 /// The least identifier with which a stretch begins.

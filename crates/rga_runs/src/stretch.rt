@@ -89,7 +89,7 @@ impl Stretch {
     }
 
     /// The parent of character k.
-    pub fn parent_of(&self, k: usize) -> Place
+    fn parent_of(&self, k: usize) -> Place
         requires { k < self.now.count }
         ensures { result ≡ parent_at self.now.first self.now.parent k }
     {
@@ -323,11 +323,10 @@ impl Stretch {
         self.hidden = Marks::of(self.hidden.bits() + (1 << k));
     }
 
-    /// Keeps the first k characters, and returns the others, the first of which has this parent.
-    pub fn part(&mut self, k: usize, parent: Place) -> Stretch
+    /// Keeps the first k characters, and returns the others.
+    pub fn part(&mut self, k: usize) -> Stretch
         requires some { 0 < k }
         requires within { k < self.old.count }
-        requires parent { parent ≡ parent_at self.old.first self.old.parent k }
         ensures elements { (chars : List ℕ) → elements_of chars self.new ≡ take k (elements_of chars self.old) }
         ensures rest { (chars : List ℕ) → elements_of chars result ≡ drop k (elements_of chars self.old) }
         ensures count { self.new.count ≡ k }
@@ -341,7 +340,7 @@ impl Stretch {
         let rest = Stretch {
             start: self.start + k as u32,
             first: self.id_at(k),
-            parent: Parent::of(parent),
+            parent: Parent::of(self.parent_of(k)),
             hidden: Marks::of(self.hidden.bits() >> k),
             count: self.count - k as u8,
         };

@@ -55,7 +55,7 @@ returns-else-is_empty-clause-elements c = λ chars ch end keeps.
     let reached : to ≡ from + passed c.args.id (drop from ss) =
     ap (λ (bs : List Block). at_spot (items_of bs) c.passed_from-q.result.0 c.passed_from-q.result.1) (sym is) ∙ c.passed_from-q.ensures.place
     ∙ ap (λ (bs : List Block). at_spot (items_of bs) b j + passed c.args.id (drop (at_spot (items_of bs) b j) (row_of (items_of bs)))) is in
-    let place : length (joined (take to (parts_in chars ss))) ≡ place_of c.args.parent c.args.id _ =
+    let place =
     ap (λ n. length (joined (take n (parts_in chars ss)))) reached
     ∙ lands c.args.id chars ss from (passed c.args.id (drop from ss)) (c.beginning-b.ensures.stored (length chars) stored) refl ∙ c.beginning-b.ensures.place chars stored keeps in
     c.put_at_spot.ensures.elements chars ch end

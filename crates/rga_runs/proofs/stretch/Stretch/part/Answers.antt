@@ -20,7 +20,7 @@ returns-clause-rest c = λ chars.
     let characters : take (s.count - k) (drop (s.start + k) chars) ≡ drop k (take s.count (drop s.start chars)) =
     ap (take (s.count - k)) (sym (drop-drop k s.start chars)) ∙ sym (drop-take k (s.count - k) (drop s.start chars)) ∙ ap (λ n. drop k (take n (drop s.start chars))) whole in
     let bits : c.of-2.result ≡ bits_from k s.hidden = c.of-2.ensures ∙ ap (λ n. n / 2 ^ k) c.bits.ensures.value ∙ sym (bits_from-is k s.hidden) in
-    (λ i. typed (c.id_at.ensures i) ((c.of.ensures ∙ c.requires.parent) i) (bits i) (characters i)) ∙ typed-drop s.first s.parent s.hidden (take s.count (drop s.start chars)) k
+    (λ i. typed (c.id_at.ensures i) ((c.of.ensures ∙ c.parent_of.ensures) i) (bits i) (characters i)) ∙ typed-drop s.first s.parent s.hidden (take s.count (drop s.start chars)) k
 
 pub of-requires-2 : goal.of-requires-2
 of-requires-2 c =
