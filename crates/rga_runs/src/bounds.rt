@@ -33,17 +33,8 @@ pub fn lower_behind(bounds: &mut [Id], blocks: &[Block], from: usize)
     let end = bounds.len().min(groups);
     for g in from..end {
         let first = NEIGHBOURS * g;
-        take_in(bounds, g, blocks[first].least);
+        bounds[g] = lesser(blocks[first].least, bounds[g]);
     }
-}
-
-/// Lowers a bound, as below this identifier no stretch begins in the first block of its neighbours.
-fn take_in(bounds: &mut [Id], g: usize, least: Id)
-    requires { g < length bounds.old }
-    ensures len { length bounds.new ≡ length bounds.old }
-    ensures bounds { (xs : List (List Kept)) → none_below least (get_or xs (32 * g) []) ≡ true → AreBoundsBut g bounds.old xs → AreBoundsBut (g + 1) bounds.new xs }
-{
-    bounds[g] = lesser(least, bounds[g]);
 }
 
 /// Makes a bound for the next blocks of a row of this many, where there is memory for it.
