@@ -81,19 +81,10 @@ impl Leaf {
         ensures keys { self.new.keys.items ≡ take at self.old.keys.items }
         ensures next { next.new.keys.items ≡ drop at self.old.keys.items ++ next.old.keys.items }
     {
-        put_in_front(&mut next.keys, &self.keys[at..]);
+        let given = &self.keys[at..];
+        next.keys.extend_from_slice(given).unwrap();
+        next.keys.rotate_right(given.len());
         next.front = rank_of(next.keys[0].first);
         self.keys.truncate(at);
     }
-}
-
-/// Puts keys in front of a list that has memory for them.
-fn put_in_front(keys: &mut Vec<Key>, more: &[Key])
-    requires { vec_len keys.old + length more.now ≤ vec_capacity keys.old }
-    ensures items { keys.new.items ≡ more.now ++ keys.old.items }
-    ensures len { vec_len keys.new ≡ vec_len keys.old + length more.now }
-    ensures capacity { vec_capacity keys.old ≤ vec_capacity keys.new }
-{
-    keys.extend_from_slice(more).unwrap();
-    keys.rotate_right(more.len());
 }
