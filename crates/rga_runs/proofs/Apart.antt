@@ -2,7 +2,7 @@
 use Rattle.std.proofs.Common.{◌≡◌, ℕ, zero, suc, ◌<◌, ◌+◌, ◌/◌, ◌||◌, Bool, true, false, not, List, [], ◌∷◌, ◌++◌, length, take, drop, get_or, refl, sym, ap, subst, ◌∙◌, append_assoc, arith}
 use Rattle.std.specs.Prelude.{All, insert, set}
 use Rattle.std.specs.List.{list_any}
-use Rattle.std.proofs.lemmas.Bool.{and_parts, and_from, or_parts, or_left, or_right}
+use Rattle.std.proofs.lemmas.Bool.{and_parts, and_from, or_parts, or_left, or_right, not-true}
 use Rattle.std.proofs.lemmas.List.{take-append-drop}
 use Rattle.std.proofs.lemmas.List.Concat.{flat_map-append}
 use Rattle.std.proofs.lemmas.List.Folds.{list_any-append}
@@ -75,17 +75,13 @@ among_from id (suc n) (suc k) less =
     let more = later-more id 1 k (suc k) (omega arith) in
     or_right (same_id (later id (suc k)) id) (among (later id (suc k)) (ids_from (later id 1) n)) (ap (λ q. among q (ids_from (later id 1) n)) (sym more) ∙ among_from (later id 1) n k (omega arith))
 
-unnot : (b : Bool) → not b ≡ true → b ≡ false
-unnot true h = absurd cc
-unnot false h = refl
-
 -- no identifier is in two parts of a distinct list
 distinct-apart : (x y : List Identifier) → is_distinct (x ++ y) ≡ true → ((q : Identifier) → among q x ≡ true → among q y ≡ true → ⊥) × (is_distinct y ≡ true)
 distinct-apart [] y d = ((λ q a b. absurd cc), d)
 distinct-apart (e ∷ x) y d =
     let p = and_parts (not (among e (x ++ y))) (is_distinct (x ++ y)) d in
     let rest = distinct-apart x y p.1 in
-    let none : among e (x ++ y) ≡ false = unnot (among e (x ++ y)) p.0 in
+    let none : among e (x ++ y) ≡ false = not-true (among e (x ++ y)) p.0 in
     let parts = or_parts (among e x) (among e y) (sym (list_any-append (same_id e) x y) ∙ none) in
     ((λ q a b. by_first q (same_id q e) refl a b parts.1 rest.0), rest.1) where
       by_first : (q : Identifier) (t : Bool) → same_id q e ≡ t → (t || among q x) ≡ true → among q y ≡ true → among e y ≡ false → ((q : Identifier) → among q x ≡ true → among q y ≡ true → ⊥) → ⊥
@@ -125,7 +121,7 @@ distinct-front : (x y : List Identifier) → is_distinct (x ++ y) ≡ true → i
 distinct-front [] y d = refl
 distinct-front (e ∷ x) y d =
     let p = and_parts (not (among e (x ++ y))) (is_distinct (x ++ y)) d in
-    let parts = or_parts (among e x) (among e y) (sym (list_any-append (same_id e) x y) ∙ unnot (among e (x ++ y)) p.0) in
+    let parts = or_parts (among e x) (among e y) (sym (list_any-append (same_id e) x y) ∙ not-true (among e (x ++ y)) p.0) in
     and_from (not (among e x)) (is_distinct x) (ap not parts.0) (distinct-front x y p.1)
 
 ids_in-append : (a b : List Stretch) → ids_in (a ++ b) ≡ ids_in a ++ ids_in b

@@ -1,5 +1,5 @@
 -- Numbers as rows of bits.
-use Rattle.std.proofs.Common.{◌≡◌, ℕ, zero, suc, ◌<◌, ◌≤◌, ◌+◌, ◌-◌, ◌*◌, ◌/◌, ◌%◌, ◌^◌, Bool, true, false, cond, refl, sym, ap, ◌∙◌, arith}
+use Rattle.std.proofs.Common.{◌≡◌, ℕ, zero, suc, ◌<◌, ◌≤◌, ◌+◌, ◌-◌, ◌*◌, ◌/◌, ◌%◌, ◌^◌, Bool, true, false, cond, refl, ap, ◌∙◌, arith}
 use Rattle.std.specs.Prelude.{nat_eq}
 use Rattle.std.proofs.lemmas.Nat.{shr-shr}
 use Rattle.std.proofs.Math.Nat.{pow-succ'}
@@ -46,15 +46,6 @@ bits_from-is (suc k) m = let e : 1 + k ≡ suc k = omega arith in bits_from-is k
 pub bits_from_le : (k m : ℕ) → bits_from k m ≤ m
 bits_from_le zero m = omega arith
 bits_from_le (suc k) m = let rest = bits_from_le k (m / 2) in omega (arith, rest)
-
--- one bit more
-pub bits_from-more : (k m : ℕ) → bits_from (suc k) m ≡ bits_from k m / 2
-bits_from-more zero m = refl
-bits_from-more (suc k) m = bits_from-more k (m / 2)
-
-pub bits_from-add : (j k m : ℕ) → bits_from j (bits_from k m) ≡ bits_from (k + j) m
-bits_from-add j zero m = let e : 0 + j ≡ j = omega arith in ap (λ n. bits_from n m) (sym e)
-bits_from-add j (suc k) m = let e : suc k + j ≡ suc (k + j) = omega arith in bits_from-add j k (m / 2) ∙ ap (λ n. bits_from n m) (sym e)
 
 pub unset-more : (k m : ℕ) → unset (suc k) m ≡ unset k m + weigh (is_odd (bits_from k m))
 unset-more zero m = omega arith

@@ -1,7 +1,7 @@
 -- The stretches and the numbers of blocks.
-use Rattle.std.proofs.Common.{◌≡◌, ℕ, zero, suc, ◌<◌, ◌≤◌, ◌*◌, List, [], ◌∷◌, ◌++◌, length, take, drop, get_or, refl, sym, ap, ◌∙◌, length-append, arith}
-use Rattle.std.specs.Prelude.{insert, set, vec_len}
-use Rattle.std.proofs.lemmas.List.{length-map, get_or-map, drop-map, map-append, map-set, take-map}
+use Rattle.std.proofs.Common.{◌≡◌, ℕ, zero, suc, ◌<◌, ◌≤◌, ◌*◌, List, [], ◌∷◌, length, get_or, refl, sym, ap, ◌∙◌, length-append, arith}
+use Rattle.std.specs.Prelude.{set, vec_len}
+use Rattle.std.proofs.lemmas.List.{length-map, get_or-map, map-set}
 use Rattle.rga_runs.specs.declared.stretch.Stretch.{Stretch}
 use Rattle.rga_runs.specs.declared.block.Block.{Block}
 use Rattle.rga_runs.specs.Blocks.{row_of}
@@ -33,21 +33,11 @@ pub items-set : (bs : List Block) (q : ℕ) (old new : Block) (F : List Stretch 
 items-set bs q old new F there is changed =
     map-set (λ (b : Block). b.stretches.items) bs q new ∙ ap (set (items_of bs) q) (changed ∙ ap F (sym (items_at bs q old there is)))
 
-pub items-insert : (bs : List Block) (i : ℕ) (b : Block) → items_of (insert bs i b) ≡ insert (items_of bs) i b.stretches.items
-items-insert bs i b =
-    map-append (λ (b : Block). b.stretches.items) (take i bs) (b ∷ drop i bs)
-    ∙ (λ j. sym (take-map (λ (b : Block). b.stretches.items) i bs) j ++ b.stretches.items ∷ sym (drop-map (λ (b : Block). b.stretches.items) i bs) j)
-
 -- a block that keeps its number
 pub numbers-set : (bs : List Block) (q : ℕ) (old new : Block) → q < length bs → old ≡ get_or bs q old → new.number ≡ old.number → numbers_of (set bs q new) ≡ numbers_of bs
 numbers-set [] q old new there is same = absurd (omega arith)
 numbers-set (b ∷ bs) zero old new there is same = ap (λ n. n ∷ numbers_of bs) (same ∙ ap (λ (z : Block). z.number) is)
 numbers-set (b ∷ bs) (suc q) old new there is same = ap (λ ns. b.number ∷ ns) (numbers-set bs q old new (omega arith) is same)
-
-pub numbers-insert : (bs : List Block) (i : ℕ) (b : Block) → numbers_of (insert bs i b) ≡ insert (numbers_of bs) i b.number
-numbers-insert bs i b =
-    map-append (λ (b : Block). b.number) (take i bs) (b ∷ drop i bs)
-    ∙ (λ j. sym (take-map (λ (b : Block). b.number) i bs) j ++ b.number ∷ sym (drop-map (λ (b : Block). b.number) i bs) j)
 
 pub number_there : (bs : List Block) (p : ℕ) (d : Block) → p < length bs → get_or (numbers_of bs) p 0 ≡ (get_or bs p d).number
 number_there [] p d there = absurd (omega arith)
@@ -60,7 +50,3 @@ few_stretches [] = omega arith
 few_stretches (b ∷ bs) =
     let few = b.few in
     omega (arith, few, b.stretches.ok, few_stretches bs, length-append b.stretches.items (row_of (items_of bs)))
-
-pub length_none : {X : Type 0} (xs : List X) → length xs ≡ 0 → xs ≡ []
-length_none [] h = refl
-length_none (x ∷ xs) h = absurd (omega (arith, h))

@@ -1,9 +1,14 @@
 -- Lists joined to a row.
 use Rattle.std.proofs.Common.{◌≡◌, ℕ, zero, suc, ◌<◌, ◌≤◌, ◌+◌, ◌-◌, List, [], ◌∷◌, ◌++◌, length, take, drop, get_or, refl, sym, ap, ◌∙◌, zero-add, length-append, append_assoc, arith}
-use Rattle.std.specs.Prelude.{insert, set}
+use Rattle.std.specs.Prelude.{insert, set, map as each}
 use Rattle.std.specs.List.{flat_map}
-use Rattle.std.proofs.lemmas.List.{drop-append-le, drop-drop, drop_at, take-append-le}
+use Rattle.std.proofs.lemmas.List.{append-nil, drop-append-le, drop-drop, drop-map, drop_at, length-set, map-append, set-append_left, take-append-le, take-map}
+use Rattle.std.proofs.lemmas.List.Concat.{get_or-flat_map}
 use Rattle.std.proofs.lemmas.List.Edits.{insert-append_left, insert-append_right}
+
+-- what stands for the elements of a list with one more
+pub map-insert : {X Y : Type 0} (f : X → Y) (xs : List X) (i : ℕ) (x : X) → each f (insert xs i x) ≡ insert (each f xs) i (f x)
+map-insert f xs i x = map-append f (take i xs) (x ∷ drop i xs) ∙ (λ j. sym (take-map f i xs) j ++ f x ∷ sym (drop-map f i xs) j)
 
 module _ {X : Type 0} where
   abbrev pub row : List (List X) → List X
@@ -17,10 +22,6 @@ module _ {X : Type 0} where
   row-suc [] (suc p) = refl
   row-suc (x ∷ xs) zero = omega (arith, length-append x [])
   row-suc (x ∷ xs) (suc p) = omega (arith, length-append x (row (take (suc p) xs)), length-append x (row (take p xs)), row-suc xs p)
-
-  pub row-append : (xs ys : List (List X)) → row (xs ++ ys) ≡ row xs ++ row ys
-  row-append [] ys = refl
-  row-append (x ∷ xs) ys = ap (λ r. x ++ r) (row-append xs ys) ∙ sym (append_assoc x (row xs) (row ys))
 
   pub at_within : (xs : List (List X)) (b j : ℕ) → b < length xs → j ≤ length (get_or xs b []) → at xs b j ≤ length (row xs)
   at_within [] b j there within = absurd (omega arith)
@@ -66,34 +67,16 @@ module _ {X : Type 0} where
       ∙ sym (insert-append_right x (row xs) (length x) (length x + at xs q i) n refl (omega arith) ∙ ap (λ k. x ++ insert (row xs) k n) f))
 
   -- a read and a write in a list are those in the row
-  get_or-past : (x y : List X) (n : ℕ) (d : X) → get_or (x ++ y) (length x + n) d ≡ get_or y n d
-  get_or-past [] y n d = rw (zero-add n) refl
-  get_or-past (e ∷ x) y n d = let s : suc (length x) + n ≡ suc (length x + n) = omega arith in rw s (get_or-past x y n d)
-
-  get_or-in : (x y : List X) (n : ℕ) (d : X) → n < length x → get_or (x ++ y) n d ≡ get_or x n d
-  get_or-in [] y n d h = absurd (omega arith)
-  get_or-in (e ∷ x) y zero d h = refl
-  get_or-in (e ∷ x) y (suc n) d h = get_or-in x y n d (omega arith)
-
   pub get_or_row : (xs : List (List X)) (p j : ℕ) (d : X) → p < length xs → j < length (get_or xs p []) → get_or (row xs) (at xs p j) d ≡ get_or (get_or xs p []) j d
-  get_or_row [] p j d there within = absurd (omega arith)
-  get_or_row (x ∷ xs) zero j d there within = rw (zero-add j) (get_or-in x (row xs) j d within)
-  get_or_row (x ∷ xs) (suc p) j d there within =
-      let e : length (x ++ row (take p xs)) + j ≡ length x + at xs p j = omega (arith, length-append x (row (take p xs))) in
-      rw e (get_or-past x (row xs) (at xs p j) d ∙ get_or_row xs p j d (omega arith) within)
+  get_or_row xs p j d there within = get_or-flat_map (λ x. x) xs p j [] d there within
 
   set-past : (x y : List X) (n : ℕ) (v : X) → set (x ++ y) (length x + n) v ≡ x ++ set y n v
   set-past [] y n v = rw (zero-add n) refl
   set-past (e ∷ x) y n v = let s : suc (length x) + n ≡ suc (length x + n) = omega arith in rw s (ap (λ r. e ∷ r) (set-past x y n v))
 
-  set-in : (x y : List X) (n : ℕ) (v : X) → n < length x → set (x ++ y) n v ≡ set x n v ++ y
-  set-in [] y n v h = absurd (omega arith)
-  set-in (e ∷ x) y zero v h = refl
-  set-in (e ∷ x) y (suc n) v h = ap (λ r. e ∷ r) (set-in x y n v (omega arith))
-
   pub set_row : (xs : List (List X)) (p j : ℕ) (v : X) → p < length xs → j < length (get_or xs p []) → row (set xs p (set (get_or xs p []) j v)) ≡ set (row xs) (at xs p j) v
   set_row [] p j v there within = absurd (omega arith)
-  set_row (x ∷ xs) zero j v there within = rw (zero-add j) (sym (set-in x (row xs) j v within))
+  set_row (x ∷ xs) zero j v there within = rw (zero-add j) (sym (set-append_left x (row xs) j v within))
   set_row (x ∷ xs) (suc p) j v there within =
       let e : length (x ++ row (take p xs)) + j ≡ length x + at xs p j = omega (arith, length-append x (row (take p xs))) in
       rw e (ap (λ r. x ++ r) (set_row xs p j v (omega arith) within) ∙ sym (set-past x (row xs) (at xs p j) v))
@@ -108,12 +91,7 @@ module _ {X : Type 0} where
       → row (set xs p (insert (set (get_or xs p []) j v) (j + 1) w)) ≡ insert (set (row xs) (at xs p j) v) (at xs p j + 1) w
   part_row [] p j v w there within = absurd (omega arith)
   part_row (x ∷ xs) zero j v w there within =
-      rw (zero-add j) (sym (ap (λ r. insert r (j + 1) w) (set-in x (row xs) j v within) ∙ insert-append_left (set x j v) (row xs) (j + 1) w (omega (arith, within, long x j)))) where
-        long : (x : List X) (j : ℕ) → length (set x j v) ≡ length x
-        long [] zero = refl
-        long [] (suc j) = refl
-        long (e ∷ x) zero = refl
-        long (e ∷ x) (suc j) = ap suc (long x j)
+      rw (zero-add j) (sym (ap (λ r. insert r (j + 1) w) (set-append_left x (row xs) j v within) ∙ insert-append_left (set x j v) (row xs) (j + 1) w (omega (arith, within, length-set x j v))))
   part_row (x ∷ xs) (suc p) j v w there within =
       let e : length (x ++ row (take p xs)) + j ≡ length x + at xs p j = omega (arith, length-append x (row (take p xs))) in
       let f : length x + at xs p j + 1 ≡ length x + (at xs p j + 1) = omega arith in
@@ -165,38 +143,6 @@ module _ {X : Type 0} where
       let s : q + 1 ≡ suc q = omega arith in
       omega (arith, ap (λ k. length (row (take k ys))) s, row-suc ys q, ap length (split_low xs q low high there), ap (λ r. length (row r)) (split_front xs q low high there))
 
-  pub there_set : (xs : List (List X)) (p : ℕ) (y : List X) → p < length xs → get_or (set xs p y) p [] ≡ y
-  there_set [] p y there = absurd (omega arith)
-  there_set (x ∷ xs) zero y there = refl
-  there_set (x ∷ xs) (suc p) y there = there_set xs p y (omega arith)
-
-  pub front_set : (xs : List (List X)) (p : ℕ) (y : List X) → take p (set xs p y) ≡ take p xs
-  front_set [] zero y = refl
-  front_set [] (suc p) y = refl
-  front_set (x ∷ xs) zero y = refl
-  front_set (x ∷ xs) (suc p) y = ap (λ r. x ∷ r) (front_set xs p y)
-
-  pub set_twice : (xs : List X) (p : ℕ) (y z : X) → set (set xs p y) p z ≡ set xs p z
-  set_twice [] zero y z = refl
-  set_twice [] (suc p) y z = refl
-  set_twice (x ∷ xs) zero y z = refl
-  set_twice (x ∷ xs) (suc p) y z = ap (λ r. x ∷ r) (set_twice xs p y z)
-
-  pub length_set : (xs : List X) (q : ℕ) (y : X) → length (set xs q y) ≡ length xs
-  length_set [] zero y = refl
-  length_set [] (suc q) y = refl
-  length_set (x ∷ xs) zero y = refl
-  length_set (x ∷ xs) (suc q) y = ap suc (length_set xs q y)
-
-  -- one that is there, whatever stands in for one that isn't
-  pub any_item : (xs : List X) (j : ℕ) (d e : X) → j < length xs → get_or xs j d ≡ get_or xs j e
-  any_item [] j d e there = absurd (omega arith)
-  any_item (x ∷ xs) zero d e there = refl
-  any_item (x ∷ xs) (suc j) d e there = any_item xs j d e (omega arith)
-
-  pub item_is : (xs : List X) (j : ℕ) (x d : X) → j < length xs → x ≡ get_or xs j x → x ≡ get_or xs j d
-  item_is xs j x d there is = is ∙ any_item xs j x d there
-
   -- what is there, where something is
   pub one_there : (xs : List X) (j : ℕ) → j < length xs → X
   one_there [] j there = absurd (omega arith)
@@ -205,10 +151,7 @@ module _ {X : Type 0} where
   pub row_take : (xs : List (List X)) (p : ℕ) → row (take (suc p) xs) ≡ row (take p xs) ++ get_or xs p []
   row_take [] zero = refl
   row_take [] (suc p) = refl
-  row_take (x ∷ xs) zero = nothing_more x where
-    nothing_more : (x : List X) → x ++ [] ≡ x
-    nothing_more [] = refl
-    nothing_more (e ∷ x) = ap (λ l. e ∷ l) (nothing_more x)
+  row_take (x ∷ xs) zero = append-nil x
   row_take (x ∷ xs) (suc p) = ap (λ r. x ++ r) (row_take xs p) ∙ sym (append_assoc x (row (take p xs)) (get_or xs p []))
 
   pub row_around : (xs : List (List X)) (p : ℕ) → p < length xs → row xs ≡ row (take p xs) ++ (get_or xs p [] ++ row (drop (suc p) xs))
@@ -225,12 +168,6 @@ module _ {X : Type 0} where
   row-add (x ∷ xs) (suc m) k =
       let e : suc m + k ≡ suc (m + k) = omega arith in
       rw e (omega (arith, length-append x (row (take (m + k) xs)), length-append x (row (take m xs)), row-add xs m k))
-
-  pub none_there : (xs : List (List X)) (q : ℕ) → length xs ≤ q → get_or xs q [] ≡ []
-  none_there [] zero past = refl
-  none_there [] (suc q) past = refl
-  none_there (x ∷ xs) zero past = absurd (omega arith)
-  none_there (x ∷ xs) (suc q) past = none_there xs q (omega arith)
 
   -- what stands around one
   pub item_parts : (xs : List X) (i : ℕ) (x : X) → i < length xs → x ≡ get_or xs i x → xs ≡ take i xs ++ x ∷ drop (suc i) xs

@@ -1,6 +1,7 @@
 -- The parts of the blocks, of which each has as many.
 use Rattle.std.proofs.Common.{◌≡◌, ℕ, zero, suc, ◌<◌, ◌≤◌, ◌+◌, ◌*◌, ◌/◌, ◌%◌, true, List, [], ◌∷◌, ◌++◌, length, take, get_or, refl, ap, ◌∙◌, length-append, arith}
 use Rattle.std.proofs.lemmas.List.{take_all}
+use Rattle.std.proofs.lemmas.List.Sums.{sum_by-append}
 use Rattle.rga_tree.specs.declared.element.Element.{Element}
 use Rattle.rga_tree.specs.Spot.{seen, seen_all}
 use Rattle.rga_runs.specs.declared.stretch.Stretch.{Stretch}
@@ -8,7 +9,6 @@ use Rattle.rga_runs.specs.Stretches.{parts_in, are_stored, visible_in, visible_o
 use Rattle.rga_runs.specs.Blocks.{row_of}
 use Rattle.rga_runs.specs.Filled.{filled_to, filled}
 use Rattle.rga_runs.proofs.Rows.{length-parts, stored_left, stored_right, seen_front}
-use Rattle.rga_runs.proofs.Sums.{sum-append}
 
 pub length-filled : (n : ℕ) (xs : List (List Element)) → length (filled_to n xs) ≡ n
 length-filled zero xs = refl
@@ -101,7 +101,7 @@ seen_filled chars (x ∷ xs) (suc b) j stored few there less =
     let here : seen_all (take 256 f) ≡ visible_in x =
     seen-filled 256 ps 256 (omega (arith, length-parts chars x, few 0 (omega arith))) ∙ seen_front chars x 256 (stored_left (length chars) x (row_of xs) stored)
     ∙ ap visible_in (take_all 256 x (few 0 (omega arith))) in
-    rw e (seen-behind f (filled chars xs) 256 (256 * b + j) (length-filled 256 ps) ∙ omega (arith, here, rest, sum-append visible_of x (row_of (take b xs))))
+    rw e (seen-behind f (filled chars xs) 256 (256 * b + j) (length-filled 256 ps) ∙ omega (arith, here, rest, sum_by-append visible_of x (row_of (take b xs))))
 
 -- the part of a number
 pub part_at : (chars : List ℕ) (xs : List (List Stretch)) (p : ℕ) → ((c : ℕ) → c < length xs → length (get_or xs c []) ≤ 256) → p < 256 * length xs

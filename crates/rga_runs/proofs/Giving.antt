@@ -1,9 +1,9 @@
 -- A list that gives its last elements to the next one.
 use Rattle.std.proofs.Common.{◌≡◌, ℕ, zero, suc, ◌<◌, ◌≤◌, ◌+◌, List, [], ◌∷◌, ◌++◌, length, take, drop, get_or, refl, sym, ap, ◌∙◌, append_assoc, length-take-le, arith}
-use Rattle.std.proofs.lemmas.List.{take-append-drop}
+use Rattle.std.proofs.lemmas.List.{take-append-drop, length-set}
 use Rattle.std.specs.Prelude.{set}
 use Rattle.rga_runs.specs.Blocks.{AreHalfFull}
-use Rattle.rga_runs.proofs.Chunks.{row, at, length_set}
+use Rattle.rga_runs.proofs.Chunks.{row, at}
 use Rattle.rga_runs.proofs.Halves.{AreHalfFull-set}
 
 -- what stands in both stays
@@ -41,7 +41,7 @@ half-set (x ∷ xs) (suc q) zero y half there = there
 half-set (x ∷ xs) (suc q) (suc r) y half there = half-set xs q r y half there
 
 AreHalfFull-half : {X : Type 0} (xs : List (List X)) (q : ℕ) (y : List X) → AreHalfFull xs → 128 ≤ length y → AreHalfFull (set xs q y)
-AreHalfFull-half xs q y h half r less = half-set xs q r y half (h r (omega (arith, less, length_set xs q y)))
+AreHalfFull-half xs q y h half r less = half-set xs q r y half (h r (omega (arith, less, length-set xs q y)))
 
 pub AreHalfFull-given : {X : Type 0} (xs : List (List X)) (q : ℕ) (low next : List X) → AreHalfFull xs → 128 ≤ length low → length (get_or xs (q + 1) []) ≤ length next → AreHalfFull (set (set xs q low) (q + 1) next)
 AreHalfFull-given xs q low next h half more =

@@ -1,9 +1,9 @@
 -- Lists of which each but the last is at least half full.
 use Rattle.std.proofs.Common.{◌≡◌, ℕ, zero, suc, ◌<◌, ◌≤◌, ◌+◌, ◌-◌, ◌*◌, ◌∙◌, List, [], ◌∷◌, length, take, drop, get_or, sym, ap, subst, length-append, length-drop, length-take-le, arith}
-use Rattle.std.proofs.lemmas.List.{take-append-drop}
+use Rattle.std.proofs.lemmas.List.{take-append-drop, length-set}
 use Rattle.std.specs.Prelude.{insert, set}
 use Rattle.rga_runs.specs.Blocks.{AreHalfFull}
-use Rattle.rga_runs.proofs.Chunks.{row, at, split_long, split_low, split_high, split_row, at_low, at_high, length_set}
+use Rattle.rga_runs.proofs.Chunks.{row, at, split_long, split_low, split_high, split_row, at_low, at_high}
 
 -- those behind the first
 rest_halves : {X : Type 0} (x : List X) (xs : List (List X)) → AreHalfFull (x ∷ xs) → AreHalfFull xs
@@ -42,7 +42,7 @@ no_shorter (x ∷ xs) (suc q) (suc r) y more = no_shorter xs q r y more
 -- one that becomes no shorter
 pub AreHalfFull-set : {X : Type 0} (xs : List (List X)) (q : ℕ) (y : List X) → AreHalfFull xs → length (get_or xs q []) ≤ length y → AreHalfFull (set xs q y)
 AreHalfFull-set xs q y h more r less =
-    let there : 128 ≤ length (get_or xs r []) = h r (omega (arith, less, length_set xs q y)) in
+    let there : 128 ≤ length (get_or xs r []) = h r (omega (arith, less, length-set xs q y)) in
     omega (arith, there, no_shorter xs q r y more)
 
 halves_split : {X : Type 0} (xs : List (List X)) (q r : ℕ) (low high : List X) → AreHalfFull xs → q < length xs → 128 ≤ length low → (q + 1 < length xs → 128 ≤ length high) → r < length xs

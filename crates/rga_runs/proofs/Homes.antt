@@ -3,7 +3,7 @@ use Rattle.std.proofs.Common.{◌≡◌, ℕ, zero, suc, ◌<◌, ◌≤◌, ◌
 use Rattle.std.specs.Prelude.{All, insert, set, nat_eq, nat_lt}
 use Rattle.std.proofs.lemmas.Bool.{ltb-true, ltb-false}
 use Rattle.std.proofs.lemmas.List.Elements.{All-append, All-cons, All-more, All-take, All-drop}
-use Rattle.std.proofs.lemmas.List.{get_or-drop, length-drop}
+use Rattle.std.proofs.lemmas.List.{get_or-drop, length-drop, get_or_default}
 use Rattle.bg_types.specs.Identifier.{Identifier}
 use Rattle.rga_runs.specs.declared.stretch.Stretch.{Stretch}
 use Rattle.rga_runs.specs.declared.key.Key.{Key}
@@ -15,7 +15,7 @@ use Rattle.rga_runs.specs.Blocks.{row_of}
 use Rattle.rga_runs.proofs.Keyed.{last_of, look_next, site_eq, eq_true, ltb_ge}
 use Rattle.rga_runs.proofs.Typed.{later-more, later-none}
 use Rattle.rga_runs.proofs.Apart.{outside_others}
-use Rattle.rga_runs.proofs.Chunks.{row_around, any_item, item_parts, drop_item}
+use Rattle.rga_runs.proofs.Chunks.{row_around, item_parts, drop_item}
 
 -- what is found from identifiers
 abbrev pub Look : Type 0
@@ -241,7 +241,7 @@ outside_half xs q low high there is apart i d less =
     let b = row_of (drop (suc q) xs) in
     let front = take i high in
     let back = drop (suc i) high in
-    let high_is : high ≡ front ++ t ∷ back = item_parts high i t less (any_item high i d t less) in
+    let high_is : high ≡ front ++ t ∷ back = item_parts high i t less (get_or_default high i d t less) in
     let around : row_of xs ≡ ((a ++ low) ++ front) ++ t ∷ (back ++ b) =
     row_around xs q there ∙ ap (λ x. a ++ (x ++ b)) is ∙ ap (λ l. a ++ l) (append_assoc low high b)
     ∙ ap (λ h. a ++ (low ++ (h ++ b))) high_is ∙ ap (λ l. a ++ (low ++ l)) (append_assoc front (t ∷ back) b)

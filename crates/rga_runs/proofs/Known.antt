@@ -2,7 +2,7 @@
 use Rattle.std.proofs.Common.{◌≡◌, ℕ, zero, suc, ◌<◌, ◌≤◌, ◌+◌, ◌-◌, Bool, true, false, List, [], ◌∷◌, length, take, drop, get_or, refl, sym, ap, subst, ◌∙◌, arith}
 use Rattle.std.specs.Prelude.{All, insert, set, nat_lt}
 use Rattle.std.proofs.lemmas.Bool.{ltb-true, ltb-false}
-use Rattle.std.proofs.lemmas.List.{take-append-drop}
+use Rattle.std.proofs.lemmas.List.{take-append-drop, set-set, length-set, get_or-set_same}
 use Rattle.std.proofs.lemmas.List.Elements.{All-append, All-cons, All-head, All-tail, All-set}
 use Rattle.bg_types.specs.Identifier.{Identifier}
 use Rattle.rga_runs.specs.declared.stretch.Stretch.{Stretch}
@@ -15,7 +15,7 @@ use Rattle.rga_runs.specs.Blocks.{row_of, at_spot}
 use Rattle.rga_runs.specs.Indexed.{IsHome, AreHome, AreKnown}
 use Rattle.rga_runs.proofs.Typed.{later-more, later-none}
 use Rattle.rga_runs.proofs.Apart.{ids-parted, outside_others}
-use Rattle.rga_runs.proofs.Chunks.{set_row, get_or_row, at_less, there_set, set_twice, length_set}
+use Rattle.rga_runs.proofs.Chunks.{set_row, get_or_row, at_less}
 use Rattle.rga_runs.proofs.Homes.{Look, Gains, told, all_front, all_back, home_own, home_shorter, homes_set, homes_insert, look_below, known_more, pair_first}
 
 -- ---- all stretches of a row, and those of one that has one more, or a changed one
@@ -103,8 +103,8 @@ homes_parted new old xs ns q i d low rest there within apart gains first next co
     let start = ap (λ (z : Identifier). z.counter) next in
     omega (arith, counter, start) in
     let own : IsHome new n rest = home_own new old rest.first n rest gains refl near in
-    let more = homes_insert new old rest.first ys ns q (i + 1) rest (omega (arith, length_set xs q y, there)) gains outside ys_homes own in
-    subst (λ z. AreHome new z ns) (ap (λ z. set ys q (insert z (i + 1) rest)) (there_set xs q y there) ∙ set_twice xs q y (insert y (i + 1) rest)) more
+    let more = homes_insert new old rest.first ys ns q (i + 1) rest (omega (arith, length-set xs q y, there)) gains outside ys_homes own in
+    subst (λ z. AreHome new z ns) (ap (λ z. set ys q (insert z (i + 1) rest)) (get_or-set_same xs q y [] there) ∙ set-set xs q y (insert y (i + 1) rest)) more
 
 pub known_parted : (new old : Look) (n : ℕ) (ss : List Stretch) (p : ℕ) (d low rest : Stretch) → p < length ss → Gains new old rest.first n
     → low.first ≡ (get_or ss p d).first → rest.first ≡ later (get_or ss p d).first low.count → low.count + rest.count ≡ (get_or ss p d).count

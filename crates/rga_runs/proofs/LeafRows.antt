@@ -1,9 +1,9 @@
 -- Leaves of keys as one row.
-use Rattle.std.proofs.Common.{◌≡◌, ℕ, zero, suc, ◌<◌, ◌≤◌, ◌-◌, Bool, true, false, cond, List, [], ◌∷◌, ◌++◌, length, take, drop, get_or, Some, refl, sym, ap, subst, ◌∙◌, length-append, arith}
+use Rattle.std.proofs.Common.{◌≡◌, ℕ, zero, suc, ◌<◌, ◌≤◌, ◌-◌, Bool, true, false, cond, List, [], ◌∷◌, length, take, drop, get_or, Some, refl, sym, ap, subst, ◌∙◌, length-append, arith}
 use Rattle.std.specs.Prelude.{insert, set, nat_lt, vec_len}
 use Rattle.std.specs.List.Sorted.{IsNonDecreasingBy}
 use Rattle.std.proofs.lemmas.Bool.{ltb-true, ltb-false}
-use Rattle.std.proofs.lemmas.List.{length-map, get_or-map, drop-map, map-append, map-set, take-map, take-append-drop, take_all}
+use Rattle.std.proofs.lemmas.List.{length-map, get_or-map, map-set, take-append-drop, take_all}
 use Rattle.bg_types.specs.Identifier.{Identifier}
 use Rattle.rga_runs.specs.declared.key.Key.{Key}
 use Rattle.rga_runs.specs.declared.leaf.Leaf.{Leaf}
@@ -31,11 +31,6 @@ pub keys-set : (ls : List Leaf) (b : ℕ) (old new : Leaf) (F : List Key → Lis
     → keys_of (set ls b new) ≡ set (keys_of ls) b (F (get_or (keys_of ls) b []))
 keys-set ls b old new F there is changed =
     map-set (λ (l : Leaf). l.keys.items) ls b new ∙ ap (set (keys_of ls) b) (changed ∙ ap F (sym (keys_at ls b old there is)))
-
-pub keys-insert : (ls : List Leaf) (i : ℕ) (l : Leaf) → keys_of (insert ls i l) ≡ insert (keys_of ls) i l.keys.items
-keys-insert ls i l =
-    map-append (λ (l : Leaf). l.keys.items) (take i ls) (l ∷ drop i ls)
-    ∙ (λ j. sym (take-map (λ (l : Leaf). l.keys.items) i ls) j ++ l.keys.items ∷ sym (drop-map (λ (l : Leaf). l.keys.items) i ls) j)
 
 pub some_keys : (ls : List Leaf) (b : ℕ) → b < length (keys_of ls) → 0 < length (get_or (keys_of ls) b [])
 some_keys [] b there = absurd (omega (arith, there))

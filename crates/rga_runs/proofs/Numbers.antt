@@ -3,6 +3,7 @@ use Rattle.std.proofs.Common.{◌≡◌, ◌≢◌, ℕ, zero, suc, ◌<◌, ◌
 use Rattle.std.specs.Prelude.{insert, set, slice_get, nat_lt}
 use Rattle.std.proofs.lemmas.Bool.{ltb-true, ltb-false}
 use Rattle.std.proofs.lemmas.List.Edits.{get_or-insert_below, get_or-insert_at, get_or-insert_above}
+use Rattle.std.proofs.lemmas.Option.{slice_get_within}
 
 pub slice_get-set_same : (xs : List ℕ) (i v : ℕ) → i < length xs → slice_get (set xs i v) i ≡ Some v
 slice_get-set_same [] i v h = absurd (omega arith)
@@ -16,16 +17,6 @@ slice_get-set_other (x ∷ xs) zero zero v h = absurd (h refl)
 slice_get-set_other (x ∷ xs) zero (suc j) v h = refl
 slice_get-set_other (x ∷ xs) (suc i) zero v h = refl
 slice_get-set_other (x ∷ xs) (suc i) (suc j) v h = slice_get-set_other xs i j v (λ e. h (ap suc e))
-
-pub slice_get-within : (xs : List ℕ) (i v : ℕ) → slice_get xs i ≡ Some v → i < length xs
-slice_get-within [] i v h = absurd cc
-slice_get-within (x ∷ xs) zero v h = omega arith
-slice_get-within (x ∷ xs) (suc i) v h = let more = slice_get-within xs i v h in omega arith
-
-pub slice_get-value : (xs : List ℕ) (i v d : ℕ) → slice_get xs i ≡ Some v → get_or xs i d ≡ v
-slice_get-value [] i v d h = absurd cc
-slice_get-value (x ∷ xs) zero v d h = cc
-slice_get-value (x ∷ xs) (suc i) v d h = slice_get-value xs i v d h
 
 pub slice_get-front : (xs ys : List ℕ) (i v : ℕ) → slice_get xs i ≡ Some v → slice_get (xs ++ ys) i ≡ Some v
 slice_get-front [] ys i v h = absurd cc
@@ -65,7 +56,7 @@ at_behind : (ns : List ℕ) (i p r m : ℕ) → p ≡ r + 1 → i ≤ r → i �
 at_behind ns i p r m is le w = ap (λ k. get_or (insert ns i m) k 0) is ∙ get_or-insert_above ns i m 0 r le w
 
 pub few_numbers : (ns places : List ℕ) (p : ℕ) → Inverts ns places → length places ≡ length ns → p < length ns → get_or ns p 0 < length ns
-few_numbers ns places p inverts many h = let few = slice_get-within places (get_or ns p 0) p (inverts p h) in omega arith
+few_numbers ns places p inverts many h = let few = slice_get_within places (get_or ns p 0) p (inverts p h) in omega arith
 
 -- a new number among the others: all are below their count
 pub inserted_known : (ns places : List ℕ) (i p : ℕ) → Inverts ns places → length places ≡ length ns → i ≤ length ns → p < length ns + 1 → get_or (insert ns i (length ns)) p 0 < length ns + 1

@@ -6,7 +6,7 @@ use Rattle.std.specs.Prelude.{IsSome, insert, set}
 use Rattle.std.specs.Option.{IfNone}
 use Rattle.std.specs.List.{prefix_len}
 use Rattle.bg_types.specs.Identifier.{Identifier}
-use Rattle.bg_types.specs.declared.op.Place.TheVariants.{Root, After}
+use Rattle.bg_types.specs.declared.op.Place.TheVariants.{After}
 use Rattle.rga_tree.specs.declared.element.Element.{Element}
 use Rattle.rga_tree.specs.Row.{place_of}
 use Rattle.rga_tree.proofs.Interface.{put_in, until, is_greater, pre_all, set_joined, get_or_joined, joined-suc, drop_joined, insert_joined}
@@ -56,9 +56,6 @@ pub place_passed : (above id : Identifier) (xs : List (List Element)) (p k : ℕ
     → length (joined (take (p + 1) xs)) + prefix_len (is_greater id) (joined (drop (p + 1) xs)) ≡ place_of (After above) id (joined xs)
 place_passed above id xs p k there within at all =
     passed_part id xs p k there within all ∙ ap (λ n. n + 1 + prefix_len (is_greater id) (drop (n + 1) (joined xs))) at
-
-pub place_root : (id : Identifier) (xs : List (List Element)) → length (joined (take 0 xs)) + prefix_len (is_greater id) (joined (drop 0 xs)) ≡ place_of Root id (joined xs)
-place_root id xs = refl
 
 -- one more part of one element
 pub insert_part : (xs : List (List Element)) (p : ℕ) (n : Element) → p ≤ length xs → joined (insert xs p (n ∷ [])) ≡ insert (joined xs) (length (joined (take p xs))) n

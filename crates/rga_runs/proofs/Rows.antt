@@ -1,7 +1,8 @@
 -- Stretches as a row of elements in parts.
 use Rattle.std.proofs.Common.{◌≡◌, ℕ, zero, suc, ◌<◌, ◌≤◌, ◌+◌, ◌-◌, Bool, true, false, cond, not, ◌||◌, List, [], ◌∷◌, ◌++◌, length, take, drop, get_or, Some, refl, sym, ap, ◌∙◌, length-append, length-drop, arith}
-use Rattle.std.proofs.lemmas.Bool.{ltb-true, ltb-false, and_parts, and_from}
-use Rattle.std.proofs.lemmas.List.{length-map, map-set, drop_all, take_all, drop_at, get_or-map, take-map, drop-map, map-append, length-take-le, take-append-le, drop-append-le, take-append-drop}
+use Rattle.std.proofs.Math.Nat.{min-le_left}
+use Rattle.std.proofs.lemmas.Bool.{ltb-true, ltb-false, and_parts, and_from, not-true}
+use Rattle.std.proofs.lemmas.List.{length-map, map-set, drop_all, take_all, drop_at, get_or-map, take-map, drop-map, length-take, length-take-le, take-append-le, drop-append-le, take-append-drop}
 use Rattle.std.proofs.lemmas.List.Sums.{sum_by-cons}
 use Rattle.std.proofs.lemmas.List.Folds.{list_any-append}
 use Rattle.std.proofs.lemmas.List.Elements.{All-head, All-tail}
@@ -13,25 +14,27 @@ use Rattle.bg_types.specs.Identifier.{Identifier, id_cmp}
 use Rattle.bg_types.specs.declared.op.Place.{Place}
 use Rattle.bg_types.specs.declared.op.Place.TheVariants.{Root, After}
 use Rattle.rga_tree.specs.declared.element.Element.{Element}
-use Rattle.rga_tree.specs.Row.{operations_of, has}
-use Rattle.rga_tree.specs.Spot.{seen, seen_all, joined, offset}
+use Rattle.rga_tree.specs.Row.{operations_of}
+use Rattle.rga_tree.specs.Spot.{seen, seen_all}
 use Rattle.rga_tree.specs.Tree.{stands_in}
-use Rattle.rga_tree.proofs.Interface.{has_row, until, until_none, until-first, is_greater, pre_all, split_long, joined-add}
+use Rattle.rga_tree.proofs.Interface.{has_row}
+use Rattle.rga_sequence.specs.Blocks.{joined, offset}
+use Rattle.rga_sequence.specs.BlockRows.{has}
+use Rattle.rga_sequence.proofs.Members.{until, until_none, until-first}
+use Rattle.rga_sequence.proofs.Passing.{is_greater, pre_all}
+use Rattle.rga_sequence.proofs.Joined.{joined-add}
 use Rattle.rga_runs.specs.declared.stretch.Stretch.{Stretch}
 use Rattle.rga_runs.specs.Typed.{later, typed, parent_at, is_odd, bits_from, unset}
 use Rattle.rga_runs.specs.Changed.{IsGrown, IsLone, IsHidden}
 use Rattle.rga_runs.specs.Stretches.{characters_of, elements_of, parts_in, elements_in, is_stored, are_stored, count_in, visible_in, IsOutside, IsPlaced, visible_of}
 use Rattle.rga_runs.proofs.Bits.{unset_le}
+use Rattle.rga_runs.proofs.Chunks.{map-insert}
 use Rattle.rga_runs.proofs.Typed.{typed-length, typed-get, typed-take, typed-drop, typed-append, typed-until, typed-outside, typed-greater, typed-less, typed_seen, typed_hidden}
 
 -- ---- what is stored
 
-unnot : (b : Bool) → not b ≡ true → b ≡ false
-unnot true h = absurd cc
-unnot false h = refl
-
 pub stored_le : (n : ℕ) (s : Stretch) → is_stored n s ≡ true → s.start + s.count ≤ n
-stored_le n s h = ltb-false n (s.start + s.count) (unnot (nat_lt n (s.start + s.count)) h)
+stored_le n s h = ltb-false n (s.start + s.count) (not-true (nat_lt n (s.start + s.count)) h)
 
 pub stored_is : (n : ℕ) (s : Stretch) → s.start + s.count ≤ n → is_stored n s ≡ true
 stored_is n s h = by_test (nat_lt n (s.start + s.count)) refl where
@@ -81,20 +84,10 @@ pub length_counted : (ss : List Stretch) → length ss ≤ count_in ss
 length_counted [] = omega arith
 length_counted (s ∷ ss) = let some = s.some in omega (arith, length_counted ss, sum_by-cons (λ (s : Stretch). s.count) s ss, some)
 
-pub length_less : (ss : List Stretch) (p : ℕ) (d : Stretch) → p < length ss → 1 < (get_or ss p d).count → length ss < count_in ss
-length_less [] p d there more = absurd (omega arith)
-length_less (s ∷ ss) zero d there more = omega (arith, length_counted ss, sum_by-cons (λ (s : Stretch). s.count) s ss, more)
-length_less (s ∷ ss) (suc p) d there more = let some = s.some in omega (arith, length_less ss p d (omega arith) more, sum_by-cons (λ (s : Stretch). s.count) s ss, some)
-
 -- ---- where an identifier stands
 
 few_characters : (chars : List ℕ) (n m : ℕ) → length (take n (drop m chars)) ≤ n
-few_characters chars n m = shorter (drop m chars) n where
-  shorter : (xs : List ℕ) (n : ℕ) → length (take n xs) ≤ n
-  shorter [] zero = omega arith
-  shorter [] (suc n) = omega arith
-  shorter (x ∷ xs) zero = omega arith
-  shorter (x ∷ xs) (suc n) = omega (arith, shorter xs n)
+few_characters chars n m = omega (arith, length-take n (drop m chars), min-le_left n (length (drop m chars)))
 
 outside_part : (q : Identifier) (chars : List ℕ) (s : Stretch) → IsOutside q s → has q (elements_of chars s) ≡ false
 outside_part q chars s out = typed-outside q s.first s.parent s.hidden (characters_of chars s) (λ k w is. out k (omega (arith, w, few_characters chars s.count s.start)) is)
@@ -185,12 +178,6 @@ stored_set n (s ∷ ss) (suc p) new h is =
     let parts = and_parts (is_stored n s) (are_stored n ss) h in
     and_from (is_stored n s) (are_stored n (set ss p new)) parts.0 (stored_set n ss p new parts.1 is)
 
-pub count_set : (ss : List Stretch) (p : ℕ) (d new : Stretch) → p < length ss → count_in (set ss p new) + (get_or ss p d).count ≡ count_in ss + new.count
-count_set [] p d new there = absurd (omega arith)
-count_set (s ∷ ss) zero d new there = omega (arith, sum_by-cons (λ (s : Stretch). s.count) new ss, sum_by-cons (λ (s : Stretch). s.count) s ss)
-count_set (s ∷ ss) (suc p) d new there =
-    omega (arith, sum_by-cons (λ (s : Stretch). s.count) s (set ss p new), sum_by-cons (λ (s : Stretch). s.count) s ss, count_set ss p d new (omega arith))
-
 pub parts_set : (chars : List ℕ) (ss : List Stretch) (p : ℕ) (new : Stretch) → parts_in chars (set ss p new) ≡ set (parts_in chars ss) p (elements_of chars new)
 parts_set chars ss p new = map-set (elements_of chars) ss p new
 
@@ -203,28 +190,8 @@ stored_with n (s ∷ l) r new h is =
 pub stored_insert : (n : ℕ) (ss : List Stretch) (p : ℕ) (new : Stretch) → are_stored n ss ≡ true → is_stored n new ≡ true → are_stored n (insert ss p new) ≡ true
 stored_insert n ss p new h is = stored_with n (take p ss) (drop p ss) new (ap (are_stored n) (take-append-drop p ss) ∙ h) is
 
-count_with : (l r : List Stretch) (new : Stretch) → count_in (l ++ new ∷ r) ≡ count_in (l ++ r) + new.count
-count_with [] r new = omega (arith, sum_by-cons (λ (s : Stretch). s.count) new r)
-count_with (s ∷ l) r new = omega (arith, sum_by-cons (λ (s : Stretch). s.count) s (l ++ new ∷ r), sum_by-cons (λ (s : Stretch). s.count) s (l ++ r), count_with l r new)
-
-pub count_insert : (ss : List Stretch) (p : ℕ) (new : Stretch) → count_in (insert ss p new) ≡ count_in ss + new.count
-count_insert ss p new = count_with (take p ss) (drop p ss) new ∙ ap (λ l. count_in l + new.count) (take-append-drop p ss)
-
 pub parts_insert : (chars : List ℕ) (ss : List Stretch) (p : ℕ) (new : Stretch) → parts_in chars (insert ss p new) ≡ insert (parts_in chars ss) p (elements_of chars new)
-parts_insert chars ss p new =
-    map-append (elements_of chars) (take p ss) (new ∷ drop p ss)
-    ∙ (λ j. sym (take-map (elements_of chars) p ss) j ++ elements_of chars new ∷ sym (drop-map (elements_of chars) p ss) j)
-
-pub parted_long : (ss new : List Stretch) (p : ℕ) (low high : List Element) → p < length ss → parts_in [] new ≡ insert (set (parts_in [] ss) p low) (p + 1) high → length new ≡ length ss + 1
-parted_long ss new p low high there is =
-    let long = length-parts [] ss in
-    let more = split_long (parts_in [] ss) p low high (omega (arith, long, there)) in
-    omega (arith, length-parts [] new, ap length is, more, long)
-
--- a stretch, where there is one
-pub one_of : (ss : List Stretch) (p : ℕ) → p < length ss → Stretch
-one_of [] p there = absurd (omega arith)
-one_of (s ∷ ss) p there = s
+parts_insert chars ss p new = map-insert (elements_of chars) ss p new
 
 -- what follows in a stretch from a greater identifier on is greater
 pub rest_passes : (id : Identifier) (chars : List ℕ) (ss : List Stretch) (p k : ℕ) (d : Stretch) → are_stored (length chars) ss ≡ true → p < length ss
@@ -312,11 +279,6 @@ lone_part chars new n is =
     (λ i. take (is.count i) (drop (is.start_is i) (chars ++ n.ch ∷ []))) ∙ ap (take 1) (drop_at chars (n.ch ∷ []) (length chars) refl) in
     (λ i. typed (is.first i) (is.parent_is i) (is.hidden_is i) (characters i))
     ∙ (λ i. record { id = n.id; parent = n.parent; ch = n.ch; hidden = marked n.hidden i } ∷ [])
-
-pub same_item : (ss : List Stretch) (p : ℕ) (a b : Stretch) → p < length ss → a ≡ get_or ss p a → b ≡ get_or ss p b → a ≡ b
-same_item [] p a b there is_a is_b = absurd (omega arith)
-same_item (s ∷ ss) zero a b there is_a is_b = is_a ∙ sym is_b
-same_item (s ∷ ss) (suc p) a b there is_a is_b = same_item ss p a b (omega arith) is_a is_b
 
 -- ---- what stands
 

@@ -3,6 +3,7 @@ use Rattle.std.proofs.Common.{◌≡◌, ℕ, suc, ◌<◌, ◌≤◌, ◌+◌, 
 use Rattle.std.specs.Ordering.{is_lt}
 use Rattle.std.specs.List.{prefix_len}
 use Rattle.std.specs.Prelude.{Option, Some, None, is_some, All, IfSome, set, vec_len}
+use Rattle.std.proofs.lemmas.List.{get_or_default}
 use Rattle.bg_types.specs.Identifier.{Identifier, id_cmp}
 use Rattle.bg_types.specs.declared.op.Place.{Place}
 use Rattle.bg_types.proofs.Interface.{id_cmp-total}
@@ -22,7 +23,7 @@ use Rattle.rga_runs.specs.BlockRows.{items_of}
 use Rattle.rga_runs.specs.Indexed.{stretches_in, HasRoom}
 use Rattle.rga_runs.proofs.Apart.{outside_others}
 use Rattle.rga_runs.proofs.BlockLists.{length-items, items_at}
-use Rattle.rga_runs.proofs.Chunks.{get_or_row, at_less, any_item, one_there, item_parts}
+use Rattle.rga_runs.proofs.Chunks.{get_or_row, at_less, one_there, item_parts}
 use Rattle.rga_runs.proofs.Typed.{later-none}
 use Rattle.rga_runs.proofs.Places.{hide_part, passed_part}
 use Rattle.rga_runs.proofs.Rows.{element_at, some_of_get, rest_passes, length-parts, part_long, part_there, parts_set, stored_at, stored_le, stored_is, stored_set, spot_until, hidden_at, hidden_part}
@@ -74,7 +75,7 @@ found_somewhere r q (Some v) some block within inside there =
 pub read_stretch : (bs : List Block) (b j : ℕ) (x : Block) (s d : Stretch) → b < length bs → j < length (get_or (items_of bs) b []) → x ≡ get_or bs b x → s ≡ get_or x.stretches.items j s → s ≡ get_or (get_or (items_of bs) b []) j d
 read_stretch bs b j x s d there within block is =
     let here = items_at bs b x there block in
-    is ∙ ap (λ (l : List Stretch). get_or l j s) (sym here) ∙ any_item (get_or (items_of bs) b []) j s d within
+    is ∙ ap (λ (l : List Stretch). get_or l j s) (sym here) ∙ get_or_default (get_or (items_of bs) b []) j s d within
 
 pub read_row : (bs : List Block) (b j : ℕ) (x : Block) (s d : Stretch) → b < length bs → j < length (get_or (items_of bs) b []) → x ≡ get_or bs b x → s ≡ get_or x.stretches.items j s → s ≡ get_or (row_of (items_of bs)) (at_spot (items_of bs) b j) d
 read_row bs b j x s d there within block is =
@@ -85,7 +86,7 @@ pub place_is : (q : Identifier) (chars : List ℕ) (ss : List Stretch) (p k : �
 place_is q chars ss p k stored apart at =
     let d = one_there ss p at.there in
     let s = get_or ss p d in
-    let parts = item_parts ss p s at.there (any_item ss p d s at.there) in
+    let parts = item_parts ss p s at.there (get_or_default ss p d s at.there) in
     let others = outside_others (take p ss) (drop (suc p) ss) s k (subst AreApart parts apart) (at.inside d) in
     spot_until q chars ss p k d stored at.there (at.inside d) (at.is d) (subst (λ z. All (IsOutside z) (take p ss)) (sym (at.is d)) others.0)
 

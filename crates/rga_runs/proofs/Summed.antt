@@ -3,7 +3,7 @@ use Rattle.std.proofs.Common.{◌≡◌, ◌≢◌, ℕ, zero, suc, ◌<◌, ◌
 use Rattle.std.specs.Prelude.{insert, set, nat_lt, nat_eq, if◌then◌else◌}
 use Rattle.std.proofs.lemmas.Bool.{ltb-true, ltb-false, eqb-true, eqb-false}
 use Rattle.std.proofs.lemmas.List.{drop-set-lt, get_or-set_same, get_or-set_other, get_or_append_left, get_or_push, length_push, take_all, take-map, drop-map}
-use Rattle.std.proofs.lemmas.List.Sums.{sum_by_more}
+use Rattle.std.proofs.lemmas.List.Sums.{sum_by_more, sum_by-append, sum_by-insert, sum_by-set}
 use Rattle.bg_types.specs.Identifier.{Identifier}
 use Rattle.bg_types.specs.declared.op.Place.{Place}
 use Rattle.rga_runs.specs.declared.stretch.Stretch.{Stretch}
@@ -16,14 +16,14 @@ use Rattle.rga_runs.specs.BlockRows.{items_of}
 use Rattle.rga_runs.specs.Sums.{AreSums, AreSumsBut, visible_from}
 use Rattle.rga_runs.proofs.BlockLists.{few_stretches}
 use Rattle.rga_runs.proofs.Chunks.{split_long}
-use Rattle.rga_runs.proofs.Sums.{sum-append, sum-insert, sum-set, sum_front, few_visible}
+use Rattle.rga_runs.proofs.Sums.{sum_front, few_visible}
 
 -- the visible characters of all these blocks
 abbrev pub visible_all : List (List Stretch) → ℕ
 visible_all xs = visible_in (row_of xs)
 
 one_more : (x : List Stretch) (xs : List (List Stretch)) → visible_all (x ∷ xs) ≡ visible_in x + visible_all xs
-one_more x xs = sum-append visible_of x (row_of xs)
+one_more x xs = sum_by-append visible_of x (row_of xs)
 
 pub visible-add : (xs : List (List Stretch)) (m k : ℕ) → visible_all (take (m + k) xs) ≡ visible_all (take m xs) + visible_all (take k (drop m xs))
 visible-add xs zero k = rw (zero-add k) (sym (zero-add (visible_all (take k xs))))
@@ -190,7 +190,7 @@ sums-split ss xs q low high there halved are = subst (λ k. AreSumsBut (q / 32) 
   ys = insert (set xs q low) (suc q) high
 
   halves : visible_in low + visible_in high ≡ visible_in (get_or xs q [])
-  halves = sym (ap visible_in halved ∙ sum-append visible_of low high)
+  halves = sym (ap visible_in halved ∙ sum_by-append visible_of low high)
 
   own : visible_from ys (32 * (q / 32)) 33 ≡ visible_from xs (32 * (q / 32)) 32
   own = visible_halved xs q (32 * (q / 32)) 32 low high there (omega arith) (omega arith) halves
@@ -299,18 +299,18 @@ sums-before ss bs g b are within up_to =
 pub visible-lone : (ss : List Stretch) (at : ℕ) (s : Stretch) (id : Identifier) (parent : Place) (start : ℕ) (hidden : Bool) → IsLone s id parent start hidden → visible_in (insert ss at s) ≡ visible_in ss + (if hidden then 0 else 1)
 visible-lone ss at s id parent start hidden is =
     let own : visible_of s ≡ (if hidden then 0 else 1) = (λ i. unset (is.count i) (is.hidden_is i)) ∙ by_test hidden in
-    omega (arith, sum-insert visible_of ss at s, own) where
+    omega (arith, sum_by-insert visible_of ss at s, own) where
       by_test : (b : Bool) → unset 1 (if b then 1 else 0) ≡ (if b then 0 else 1)
       by_test true = refl
       by_test false = refl
 
 -- a stretch of which more are visible, or fewer
 pub visible-raised : (ss : List Stretch) (j more : ℕ) (d new : Stretch) → j < length ss → visible_of new ≡ visible_of (get_or ss j d) + more → visible_in (set ss j new) ≡ visible_in ss + more
-visible-raised ss j more d new there is = omega (arith, sum-set visible_of ss j d new there, is)
+visible-raised ss j more d new there is = omega (arith, sum_by-set visible_of ss j new d there, is)
 
 pub visible-lowered : (ss : List Stretch) (j fewer : ℕ) (d new : Stretch) → j < length ss → visible_of new + fewer ≡ visible_of (get_or ss j d) → visible_in (set ss j new) + fewer ≡ visible_in ss
-visible-lowered ss j fewer d new there is = omega (arith, sum-set visible_of ss j d new there, is)
+visible-lowered ss j fewer d new there is = omega (arith, sum_by-set visible_of ss j new d there, is)
 
 -- a stretch in two parts
 pub visible-parted : (ss : List Stretch) (j : ℕ) (d low rest : Stretch) → j < length ss → visible_of low + visible_of rest ≡ visible_of (get_or ss j d) → visible_in (insert (set ss j low) (j + 1) rest) ≡ visible_in ss
-visible-parted ss j d low rest there is = omega (arith, sum-insert visible_of (set ss j low) (j + 1) rest, sum-set visible_of ss j d low there, is)
+visible-parted ss j d low rest there is = omega (arith, sum_by-insert visible_of (set ss j low) (j + 1) rest, sum_by-set visible_of ss j low d there, is)

@@ -1,10 +1,8 @@
 -- How many characters stretches have, and how many of those are visible.
-use Rattle.std.proofs.Common.{◌≡◌, ℕ, zero, suc, ◌<◌, ◌≤◌, ◌+◌, ◌*◌, List, [], ◌∷◌, ◌++◌, length, take, drop, get_or, ap, ◌∙◌, arith}
-use Rattle.std.specs.Prelude.{insert, set}
+use Rattle.std.proofs.Common.{◌≡◌, ℕ, zero, suc, ◌<◌, ◌≤◌, ◌+◌, ◌*◌, List, [], ◌∷◌, length, take, drop, get_or, ap, ◌∙◌, arith}
 use Rattle.std.specs.List.{sum_by}
 use Rattle.std.proofs.Math.Seq.{take-add}
-use Rattle.std.proofs.lemmas.List.{take-append-drop}
-use Rattle.std.proofs.lemmas.List.Sums.{sum_by-cons}
+use Rattle.std.proofs.lemmas.List.Sums.{sum_by-cons, sum_by-append, sum_by-le, sum_by_more_le}
 use Rattle.rga_runs.specs.declared.stretch.Stretch.{Stretch}
 use Rattle.rga_runs.specs.Stretches.{count_in, visible_in, visible_of}
 use Rattle.rga_runs.proofs.Bits.{unset_le}
@@ -14,49 +12,16 @@ use Rattle.rga_runs.specs.BlockRows.{items_of}
 use Rattle.rga_runs.proofs.BlockLists.{items_at}
 
 module _ {X : Type 0} (f : X → ℕ) where
-  pub sum-append : (l r : List X) → sum_by f (l ++ r) ≡ sum_by f l + sum_by f r
-  sum-append [] r = omega arith
-  sum-append (x ∷ l) r = omega (arith, sum-append l r, sum_by-cons f x (l ++ r), sum_by-cons f x l)
-
-  sum-with : (l r : List X) (new : X) → sum_by f (l ++ new ∷ r) ≡ sum_by f (l ++ r) + f new
-  sum-with [] r new = omega (arith, sum_by-cons f new r)
-  sum-with (x ∷ l) r new = omega (arith, sum_by-cons f x (l ++ new ∷ r), sum_by-cons f x (l ++ r), sum-with l r new)
-
-  pub sum-insert : (xs : List X) (j : ℕ) (new : X) → sum_by f (insert xs j new) ≡ sum_by f xs + f new
-  sum-insert xs j new = sum-with (take j xs) (drop j xs) new ∙ ap (λ l. sum_by f l + f new) (take-append-drop j xs)
-
-  pub sum-set : (xs : List X) (j : ℕ) (d new : X) → j < length xs → sum_by f (set xs j new) + f (get_or xs j d) ≡ sum_by f xs + f new
-  sum-set [] j d new there = absurd (omega arith)
-  sum-set (x ∷ xs) zero d new there = omega (arith, sum_by-cons f new xs, sum_by-cons f x xs)
-  sum-set (x ∷ xs) (suc j) d new there = omega (arith, sum_by-cons f x (set xs j new), sum_by-cons f x xs, sum-set xs j d new (omega arith))
-
-  pub sum_there : (xs : List X) (j : ℕ) (d : X) → j < length xs → f (get_or xs j d) ≤ sum_by f xs
-  sum_there [] j d there = absurd (omega arith)
-  sum_there (x ∷ xs) zero d there = omega (arith, sum_by-cons f x xs)
-  sum_there (x ∷ xs) (suc j) d there = omega (arith, sum_by-cons f x xs, sum_there xs j d (omega arith))
-
-  pub sum_le : (n : ℕ) (xs : List X) → ((x : X) → f x ≤ n) → sum_by f xs ≤ n * length xs
-  sum_le n [] all = omega arith
-  sum_le n (x ∷ xs) all = let one : n * suc (length xs) ≡ n + n * length xs = omega arith in omega (arith, one, all x, sum_by-cons f x xs, sum_le n xs all)
-
-  pub sum_take : (xs : List X) (n : ℕ) → sum_by f (take n xs) ≤ sum_by f xs
-  sum_take [] zero = omega arith
-  sum_take [] (suc n) = omega arith
-  sum_take (x ∷ xs) zero = omega arith
-  sum_take (x ∷ xs) (suc n) = omega (arith, sum_by-cons f x (take n xs), sum_by-cons f x xs, sum_take xs n)
-
   pub sum_with_next : (xs : List X) (n : ℕ) (x : X) → n < length xs → x ≡ get_or xs n x → sum_by f (take n xs) + f x ≤ sum_by f xs
-  sum_with_next [] n x there is = absurd (omega arith)
-  sum_with_next (y ∷ xs) zero x there is = omega (arith, sum_by-cons f y xs, ap f is)
-  sum_with_next (y ∷ xs) (suc n) x there is = omega (arith, sum_by-cons f y (take n xs), sum_by-cons f y xs, sum_with_next xs n x (omega arith) is)
+  sum_with_next xs n x there is = omega (arith, sum_by_more_le f xs n x there, ap f is)
 
   -- as many more as are read behind the first ones
   pub sum-behind : (xs : List X) (m n : ℕ) → sum_by f (take (m + n) xs) ≡ sum_by f (take m xs) + sum_by f (take n (drop m xs))
-  sum-behind xs m n = ap (sum_by f) (take-add m n xs) ∙ sum-append (take m xs) (take n (drop m xs))
+  sum-behind xs m n = ap (sum_by f) (take-add m n xs) ∙ sum_by-append f (take m xs) (take n (drop m xs))
 
   -- those before a spot
   pub sum_before : (xs : List (List X)) (b j : ℕ) → b < length xs → j ≤ length (get_or xs b []) → sum_by f (take (at xs b j) (row xs)) ≡ sum_by f (row (take b xs)) + sum_by f (take j (get_or xs b []))
-  sum_before xs b j there within = ap (sum_by f) (take_row xs b j there within) ∙ sum-append (row (take b xs)) (take j (get_or xs b []))
+  sum_before xs b j there within = ap (sum_by f) (take_row xs b j there within) ∙ sum_by-append f (row (take b xs)) (take j (get_or xs b []))
 
 pub count_le : (s : Stretch) → s.count ≤ 24
 count_le s = s.few
@@ -65,10 +30,10 @@ pub visible_le : (s : Stretch) → visible_of s ≤ 24
 visible_le s = let few = s.few in omega (arith, few, unset_le s.count s.hidden)
 
 pub few_counted : (ss : List Stretch) → count_in ss ≤ 24 * length ss
-few_counted ss = sum_le (λ (s : Stretch). s.count) 24 ss count_le
+few_counted ss = omega (arith, sum_by-le (λ (s : Stretch). s.count) 24 ss (λ k d less. count_le (get_or ss k d)))
 
 pub few_visible : (ss : List Stretch) → visible_in ss ≤ 24 * length ss
-few_visible ss = sum_le visible_of 24 ss visible_le
+few_visible ss = omega (arith, sum_by-le visible_of 24 ss (λ k d less. visible_le (get_or ss k d)))
 
 -- those of one block more
 pub sum_next : (f : Stretch → ℕ) (bs : List Block) (b : ℕ) (x : Block) → b < length bs → x ≡ get_or bs b x
@@ -76,14 +41,14 @@ pub sum_next : (f : Stretch → ℕ) (bs : List Block) (b : ℕ) (x : Block) →
 sum_next f bs b x there is =
     let one_more : b + 1 ≡ suc b = omega arith in
     ap (λ n. sum_by f (row (take n (items_of bs)))) one_more ∙ ap (sum_by f) (row_take (items_of bs) b)
-    ∙ sum-append f (row (take b (items_of bs))) (get_or (items_of bs) b []) ∙ ap (λ l. sum_by f (row (take b (items_of bs))) + sum_by f l) (items_at bs b x there is)
+    ∙ sum_by-append f (row (take b (items_of bs))) (get_or (items_of bs) b []) ∙ ap (λ l. sum_by f (row (take b (items_of bs))) + sum_by f l) (items_at bs b x there is)
 
 -- those of the first blocks
 pub sum_front : (f : Stretch → ℕ) (xs : List (List Stretch)) (n : ℕ) → sum_by f (row (take n xs)) ≤ sum_by f (row xs)
 sum_front f [] zero = omega arith
 sum_front f [] (suc n) = omega arith
 sum_front f (x ∷ xs) zero = omega arith
-sum_front f (x ∷ xs) (suc n) = omega (arith, sum-append f x (row (take n xs)), sum-append f x (row xs), sum_front f xs n)
+sum_front f (x ∷ xs) (suc n) = omega (arith, sum_by-append f x (row (take n xs)), sum_by-append f x (row xs), sum_front f xs n)
 
 -- ---- where none is hidden
 

@@ -3,7 +3,7 @@ use Rattle.std.proofs.Common.{◌≡◌, ℕ, zero, suc, ◌<◌, ◌≤◌, ◌
 use Rattle.std.specs.Prelude.{filter, nat_lt, set}
 use Rattle.std.proofs.Math.Utf8.{scalar, scalars}
 use Rattle.std.proofs.lemmas.Bool.{and_parts, and_from}
-use Rattle.std.proofs.lemmas.List.{take-append-drop}
+use Rattle.std.proofs.lemmas.List.{take-append-drop, get_or_default}
 use Rattle.std.proofs.lemmas.List.Folds.{list_all-append}
 use Rattle.bg_types.specs.Identifier.{Identifier}
 use Rattle.bg_types.specs.declared.op.Place.{Place}
@@ -17,7 +17,6 @@ use Rattle.rga_runs.specs.Changed.{IsGrown}
 use Rattle.rga_runs.specs.Counters.{are_up_to}
 use Rattle.rga_runs.specs.Typed.{later, typed, bits_from}
 use Rattle.rga_runs.specs.Stretches.{elements_of, parts_in, elements_in, are_stored, AreApart}
-use Rattle.rga_runs.proofs.Chunks.{any_item}
 use Rattle.rga_runs.proofs.Counters.{fits}
 use Rattle.rga_runs.proofs.Places.{put_last}
 use Rattle.rga_runs.proofs.Rows.{length-parts, part_there, part_long, parts_set, parts_kept, grown_part}
@@ -35,7 +34,7 @@ taken_in chars more ss p s new last m stored apart there item is bits end many l
     let next : later s.first s.count ≡ later last 1 = sym (ap (λ q. later q 1) last_is ∙ later-more s.first (s.count - 1) 1 s.count (omega (arith, some))) in
     let grown : elements_of (chars ++ more) new ≡ get_or xs p [] ++ run =
     grown_part chars more s new m is bits end many ∙ (λ i. sym part i ++ typed (next i) (After (sym last_is i)) 0 more) in
-    let here = λ (d : Stretch). item ∙ any_item ss p s d there in
+    let here = λ (d : Stretch). item ∙ get_or_default ss p s d there in
     let at : StandsAt ss p (s.count - 1) last = record {
       there = there;
       inside = λ d. subst (λ (z : Stretch). s.count - 1 < z.count) (here d) (omega (arith, some));

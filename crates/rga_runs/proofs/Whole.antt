@@ -2,6 +2,7 @@
 use Rattle.std.proofs.Common.{◌≡◌, ℕ, ◌<◌, ◌+◌, Bool, true, false, List, length, take, get_or, Some, refl, sym, ap, subst, ◌∙◌, arith}
 use Rattle.std.specs.Prelude.{All, slice_get}
 use Rattle.std.specs.Bool.{OnTrue, OnFalse}
+use Rattle.std.proofs.lemmas.List.{get_or_default}
 use Rattle.bg_types.specs.Identifier.{Identifier}
 use Rattle.rga_tree.specs.declared.element.Element.{Element}
 use Rattle.rga_tree.specs.KeepsWalk.{KeepsWalk}
@@ -12,7 +13,7 @@ use Rattle.rga_runs.specs.declared.stretch.Stretch.{Stretch}
 use Rattle.rga_runs.specs.Typed.{later, is_odd, bits_from, unset}
 use Rattle.rga_runs.specs.Stretches.{elements_of, parts_in, elements_in, are_stored, visible_in, IsOutside, AreApart}
 use Rattle.rga_runs.proofs.Apart.{apart_of}
-use Rattle.rga_runs.proofs.Chunks.{any_item, one_there}
+use Rattle.rga_runs.proofs.Chunks.{one_there}
 use Rattle.rga_runs.proofs.Rows.{length-parts, part_there, outside_row, until_has, seen_row, seen_front, seen_in_part, stored_at, hidden_at, some_of_get}
 use Rattle.rga_runs.proofs.Spots.{StandsAt, place_is, part_within}
 
@@ -35,8 +36,8 @@ pub all_outside : (q : Identifier) (chars : List ℕ) (ss : List Stretch) → ar
 all_outside q chars ss stored apart none = λ p d there k less is.
     let at : StandsAt ss p k q = record {
       there = there;
-      inside = λ e. subst (λ (s : Stretch). k < s.count) (any_item ss p d e there) less;
-      is = λ e. is ∙ ap (λ (s : Stretch). later s.first k) (any_item ss p d e there);
+      inside = λ e. subst (λ (s : Stretch). k < s.count) (get_or_default ss p d e there) less;
+      is = λ e. is ∙ ap (λ (s : Stretch). later s.first k) (get_or_default ss p d e there);
     } in
     let here = stands_has q chars ss p k stored apart at in
     absurd cc

@@ -1,8 +1,9 @@
 -- The goals of `hide` that are answered by hand.
 use Rattle.std.proofs.Common.{◌≡◌, ◌∙◌, true, false, get_or, sym, ap, arith}
 use Rattle.std.specs.Prelude.{set}
-use Rattle.rga_tree.specs.Spot.{offset}
-use Rattle.rga_tree.proofs.Interface.{offset_less}
+use Rattle.std.proofs.lemmas.List.Sums.{sum_by-set}
+use Rattle.rga_sequence.specs.Blocks.{offset}
+use Rattle.rga_sequence.proofs.Spots.{offset_less}
 use Rattle.rga_runs.specs.declared.stretch.Stretch.{Stretch}
 use Rattle.rga_runs.specs.Typed.{is_odd, bits_from}
 use Rattle.rga_runs.specs.Stretches.{parts_in, elements_in, are_stored, visible_in, visible_of}
@@ -13,7 +14,6 @@ use Rattle.rga_runs.proofs.Chunks.{one_there}
 use Rattle.rga_runs.proofs.Places.{hidden_already}
 use Rattle.rga_runs.proofs.Rows.{length-parts}
 use Rattle.rga_runs.proofs.Spots.{spot_there, spot_stands, read_row, place_is, part_within, hidden_there, hidden_row, stored_same}
-use Rattle.rga_runs.proofs.Sums.{sum-set}
 use Rattle.rga_runs.proofs.Taken.{none_taken}
 use Rattle.rga_runs.proofs.change.hide.Goals as goal
 
@@ -71,7 +71,7 @@ returns-clause-visible c =
     let p = at_spot xs b j in
     let d = one_there ss p at.there in
     let h = c.hide_character.ensures.row d in
-    omega (arith, ap visible_in h.2, sum-set visible_of ss p d h.0 at.there, h.1.visible)
+    omega (arith, ap visible_in h.2, sum_by-set visible_of ss p h.0 d at.there, h.1.visible)
 
 pub returns-clause-stored : goal.returns-clause-stored
 returns-clause-stored c = λ n stored.

@@ -3,7 +3,7 @@ use Rattle.std.proofs.Common.{◌≡◌, ◌<◌, ◌+◌, ◌-◌, [], length, 
 use Rattle.std.specs.Prelude.{All}
 use Rattle.std.specs.Str.{chars}
 use Rattle.std.specs.Str.Iter.{chars_rest}
-use Rattle.std.proofs.lemmas.List.{append-nil, take-append-drop, length-take-le}
+use Rattle.std.proofs.lemmas.List.{append-nil, take-append-drop, length-take-le, get_or_default}
 use Rattle.bg_types.specs.Identifier.{Identifier}
 use Rattle.bg_types.specs.declared.op.Place.TheVariants.{After}
 use Rattle.rga_tree.specs.Row.{start_of}
@@ -13,7 +13,7 @@ use Rattle.rga_runs.specs.Stretches.{elements_in, are_stored, IsOutside}
 use Rattle.rga_runs.specs.Blocks.{row_of, at_spot}
 use Rattle.rga_runs.specs.BlockRows.{items_of}
 use Rattle.rga_runs.proofs.BlockLists.{length-items}
-use Rattle.rga_runs.proofs.Chunks.{get_or_row, at_less, one_there, any_item}
+use Rattle.rga_runs.proofs.Chunks.{get_or_row, at_less, one_there}
 use Rattle.rga_runs.proofs.Rows.{stored_is, stored_more, stored_set}
 use Rattle.rga_runs.proofs.TakenIn.{taken_in}
 use Rattle.rga_runs.proofs.Typed.{later-more}
@@ -55,7 +55,7 @@ returns-in-Some-clause-elements c =
     let p = at_spot xs b j in
     let d = one_there ss p less in
     let s = get_or ss p d in
-    let item : s ≡ get_or ss p s = any_item ss p d s less in
+    let item : s ≡ get_or ss p s = get_or_default ss p d s less in
     let same : s ≡ get_or (get_or xs b []) j d = get_or_row xs b j d there within in
     let e = c.grow.ensures.row d in
     let m = c.store-more.result in
@@ -82,7 +82,7 @@ returns-in-Some-clause-stored c =
     let p = at_spot xs b j in
     let d = one_there ss p less in
     let s = get_or ss p d in
-    let item : s ≡ get_or ss p s = any_item ss p d s less in
+    let item : s ≡ get_or ss p s = get_or_default ss p d s less in
     let same : s ≡ get_or (get_or xs b []) j d = get_or_row xs b j d there within in
     let e = c.grow.ensures.row d in
     let m = c.store-more.result in

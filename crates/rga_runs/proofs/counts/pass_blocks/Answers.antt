@@ -2,7 +2,6 @@
 use Rattle.std.proofs.Common.{◌≡◌, ◌+◌, ◌-◌, ap, ◌∙◌, arith}
 use Rattle.rga_runs.specs.BlockRows.{items_of}
 use Rattle.rga_runs.specs.Sums.{visible_from}
-use Rattle.rga_runs.proofs.BlockLists.{length-items}
 use Rattle.rga_runs.proofs.Summed.{visible-add, visible-read, visible_from-within}
 use Rattle.rga_runs.proofs.counts.pass_blocks.Goals as goal
 

@@ -1,6 +1,7 @@
 -- The goals of `pass_together` that are answered by hand.
 use Rattle.std.proofs.Common.{◌≡◌, ℕ, ◌+◌, ◌-◌, take, drop, sum, ap, ◌∙◌, arith}
-use Rattle.rga_runs.proofs.Sums.{sum-behind, sum_take}
+use Rattle.std.proofs.lemmas.List.Sums.{sum_by-take-le}
+use Rattle.rga_runs.proofs.Sums.{sum-behind}
 use Rattle.rga_runs.proofs.counts.pass_together.Goals as goal
 
 pub total-visible-requires : goal.total-visible-requires
@@ -9,7 +10,7 @@ total-visible-requires c =
     let p = c.loop-passed.passed in
     let n : p + 16 - p ≡ 16 = omega arith in
     let read = ap (λ k. sum (take k (drop p ss))) n in
-    omega (arith, read, sum-behind (λ (n : ℕ). n) ss p 16, sum_take (λ (n : ℕ). n) ss (p + 16), c.requires)
+    omega (arith, read, sum-behind (λ (n : ℕ). n) ss p 16, sum_by-take-le (λ (n : ℕ). n) ss (p + 16), c.requires)
 
 pub loop-passed-preserved : goal.loop-passed-preserved
 loop-passed-preserved c =

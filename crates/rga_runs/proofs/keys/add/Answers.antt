@@ -2,11 +2,11 @@
 use Rattle.std.proofs.Common.{◌≡◌, ◌<◌, ◌≤◌, ◌∷◌, ◌∙◌, ℕ, [], List, cond, Some, length, get_or, sym, ap, subst, arith, rules}
 use Rattle.std.specs.Prelude.{vec_len}
 use Rattle.std.proofs.lemmas.List.Edits.{length-insert}
+use Rattle.std.proofs.lemmas.List.{nil_from_length}
 use Rattle.rga_runs.specs.declared.key.Key.{Key}
 use Rattle.rga_runs.specs.declared.leaf.Leaf.{Leaf}
 use Rattle.rga_runs.specs.Keyed.{rank, look_in, reaches}
 use Rattle.rga_runs.specs.Leaves.{keys_of, all_keys, place_in}
-use Rattle.rga_runs.proofs.BlockLists.{length_none}
 use Rattle.rga_runs.proofs.Chunks.{at_within}
 use Rattle.rga_runs.proofs.Halves.{some_spare}
 use Rattle.rga_runs.proofs.LeafRows.{Gained, length-keys, put_keys}
@@ -17,7 +17,7 @@ returns-then-is_empty-clause-looks c = λ q fits.
     let k = c.args.keys.now in
     let key = c.of-key.result in
     let zero : vec_len k.leaves ≡ 0 = search rules in
-    let none : all_keys k.leaves.items ≡ [] = ap all_keys (length_none k.leaves.items (omega (arith, zero, k.leaves.ok))) in
+    let none : all_keys k.leaves.items ≡ [] = ap all_keys (nil_from_length k.leaves.items (omega (arith, zero, k.leaves.ok))) in
     let all : Gained (key ∷ []) [] c.args.id c.args.number =
     put_keys [] 0 key c.args.id c.args.number c.of-key.ensures.first c.of-key.ensures.number (omega arith) (λ i d less. absurd (omega (arith, less))) (λ i d from less. absurd (omega (arith, less))) in
     ap (λ l. look_in l q) c.begin.ensures.keys ∙ all q fits
@@ -27,7 +27,7 @@ pub returns-then-is_empty-clause-len : goal.returns-then-is_empty-clause-len
 returns-then-is_empty-clause-len c =
     let k = c.args.keys.now in
     let zero : vec_len k.leaves ≡ 0 = search rules in
-    let none : all_keys k.leaves.items ≡ [] = ap all_keys (length_none k.leaves.items (omega (arith, zero, k.leaves.ok))) in
+    let none : all_keys k.leaves.items ≡ [] = ap all_keys (nil_from_length k.leaves.items (omega (arith, zero, k.leaves.ok))) in
     omega (arith, ap length c.begin.ensures.keys, ap length none)
 
 pub begin-requires-clause-room : goal.begin-requires-clause-room

@@ -1,11 +1,11 @@
 -- The goals of `find` that are answered by hand.
 use Rattle.std.proofs.Common.{◌≡◌, ◌<◌, ◌≤◌, ◌+◌, ◌-◌, ◌∙◌, ℕ, List, [], cond, Some, None, length, take, get_or, sym, ap, subst, arith, rules}
 use Rattle.std.specs.Prelude.{vec_len}
+use Rattle.std.proofs.lemmas.List.{nil_from_length}
 use Rattle.rga_runs.specs.declared.key.Key.{Key}
 use Rattle.rga_runs.specs.declared.leaf.Leaf.{Leaf}
 use Rattle.rga_runs.specs.Keyed.{rank, look_in, of_site}
 use Rattle.rga_runs.specs.Leaves.{keys_of, all_keys, place_in}
-use Rattle.rga_runs.proofs.BlockLists.{length_none}
 use Rattle.rga_runs.proofs.Chunks.{row, at, at_within, get_or_row}
 use Rattle.rga_runs.proofs.Keyed.{found_none, found_last, eq_true, eq_false}
 use Rattle.rga_runs.proofs.LeafRows.{length-keys, keys_at}
@@ -15,7 +15,7 @@ pub returns-then-is_empty-clause-none : goal.returns-then-is_empty-clause-none
 returns-then-is_empty-clause-none c =
     let ls = c.args.keys.now.leaves in
     let zero : vec_len ls ≡ 0 = search rules in
-    let none : ls.items ≡ [] = length_none ls.items (omega (arith, ls.ok, zero)) in
+    let none : ls.items ≡ [] = nil_from_length ls.items (omega (arith, ls.ok, zero)) in
     ap (λ l. look_in (all_keys l) c.args.id) none
 
 pub returns-then-at-eq0-clause-none : goal.returns-then-at-eq0-clause-none

@@ -1,7 +1,6 @@
 -- The goals of `give_behind` that are answered by hand.
 use Rattle.std.proofs.Common.{◌≡◌, ℕ, suc, ◌+◌, ◌<◌, ◌∙◌, [], List, sym, ap, take, length, get_or, get_or-take, arith}
 use Rattle.rga_runs.specs.declared.key.Key.{Key}
-use Rattle.rga_runs.specs.declared.leaf.Leaf.{Leaf}
 use Rattle.rga_runs.specs.Leaves.{keys_of}
 use Rattle.rga_runs.proofs.Chunks.{row, row-suc}
 use Rattle.rga_runs.proofs.Giving.{is_given}

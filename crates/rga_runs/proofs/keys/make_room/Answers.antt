@@ -1,5 +1,5 @@
 -- The goals of `make_room` that are answered by hand.
-use Rattle.std.proofs.Common.{◌≡◌, ℕ, ◌+◌, ◌<◌, ◌∙◌, [], refl, ap, take, drop, length, get_or, arith}
+use Rattle.std.proofs.Common.{◌≡◌, ℕ, ◌+◌, ◌<◌, [], refl, ap, take, drop, length, get_or, arith}
 use Rattle.std.specs.Prelude.{insert, set, vec_len}
 use Rattle.rga_runs.specs.declared.keys.Keys.{Keys}
 use Rattle.rga_runs.specs.Leaves.{keys_of}

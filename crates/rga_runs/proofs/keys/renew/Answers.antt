@@ -2,13 +2,14 @@
 use Rattle.std.proofs.Common.{◌≡◌, ◌-◌, ◌<◌, ◌≤◌, ◌∙◌, ◌∷◌, ℕ, zero, suc, [], List, Some, None, length, take, get_or, refl, sym, ap, subst, arith}
 use Rattle.std.specs.Prelude.{set}
 use Rattle.std.specs.List.Sorted.{IsNonDecreasingBy}
+use Rattle.std.proofs.lemmas.List.{length-set}
 use Rattle.bg_types.specs.Identifier.{Identifier}
 use Rattle.rga_runs.specs.declared.key.Key.{Key}
 use Rattle.rga_runs.specs.declared.leaf.Leaf.{Leaf}
 use Rattle.rga_runs.specs.Blocks.{AreHalfFull}
 use Rattle.rga_runs.specs.Keyed.{rank, look_in}
 use Rattle.rga_runs.specs.Leaves.{keys_of, all_keys, place_in}
-use Rattle.rga_runs.proofs.Chunks.{row, at, at_within, set_row, length_set}
+use Rattle.rga_runs.proofs.Chunks.{row, at, at_within, set_row}
 use Rattle.rga_runs.proofs.Halves.{AreHalfFull-set}
 use Rattle.rga_runs.proofs.Homes.{told}
 use Rattle.rga_runs.proofs.LeafRows.{length-keys, keys_at, keys-set, found_some, found_first, renew_keys, rising_set}
@@ -97,7 +98,7 @@ invariant_of-keys c =
     let same = λ (d : Key) (less : n - 1 < length all). ap rank c.of.ensures.first ∙ sym (ap rank (found_first all id n c.requires.there.0 d some long below above c.requires.there.1)) in
     record {
       rising = subst (IsNonDecreasingBy (λ (z : Key). rank z.first)) (sym row_is) (rising_set all (n - 1) key same k.rising);
-      halves = subst AreHalfFull (sym keys_is) (AreHalfFull-set xs b (set (get_or xs b []) (j - 1) key) k.halves (omega (arith, length_set (get_or xs b []) (j - 1) key)));
+      halves = subst AreHalfFull (sym keys_is) (AreHalfFull-set xs b (set (get_or xs b []) (j - 1) key) k.halves (omega (arith, length-set (get_or xs b []) (j - 1) key)));
       memory = k.memory;
     }
 
@@ -153,4 +154,4 @@ returns-clause-len c =
     let keys_is : keys_of leaves ≡ set xs b (set (get_or xs b []) (j - 1) key) =
     keys-set ls.items b c.index_mut.result.now c.write.new.self (λ l. set l (j - 1) key) (omega (arith, c.spot_behind-b.ensures.leaf, ap length is)) c.index_mut.ensures.value c.write.ensures in
     let row_is : all_keys leaves ≡ set all (n - 1) key = ap row keys_is ∙ set_row xs b (j - 1) key there inside ∙ ap (λ m. set all m key) last in
-    ap length row_is ∙ length_set all (n - 1) key
+    ap length row_is ∙ length-set all (n - 1) key

@@ -1,5 +1,5 @@
 -- The goals of `split` that are answered by hand.
-use Rattle.std.proofs.Common.{◌≡◌, ℕ, ◌+◌, ◌%◌, ◌<◌, ◌≤◌, ◌∙◌, List, [], Bool, true, cond, sym, ap, subst, length, take, drop, get_or, length-drop, length-take-le, arith}
+use Rattle.std.proofs.Common.{◌≡◌, ℕ, ◌+◌, ◌<◌, ◌≤◌, ◌∙◌, List, [], Bool, true, cond, sym, ap, subst, length, take, drop, get_or, length-drop, length-take-le, arith}
 use Rattle.std.specs.Prelude.{is_ok, insert, set, vec_len}
 use Rattle.std.specs.Option.{option_to_list}
 use Rattle.std.specs.List.Sorted.{IsNonDecreasingBy}
@@ -9,9 +9,9 @@ use Rattle.rga_runs.specs.declared.leaf.Leaf.{Leaf}
 use Rattle.rga_runs.specs.Blocks.{AreHalfFull}
 use Rattle.rga_runs.specs.Keyed.{rank}
 use Rattle.rga_runs.specs.Leaves.{keys_of, all_keys}
-use Rattle.rga_runs.proofs.Chunks.{row, split_row}
+use Rattle.rga_runs.proofs.Chunks.{map-insert, row, split_row}
 use Rattle.rga_runs.proofs.Halves.{full_paid, some_spare, AreHalfFull-split}
-use Rattle.rga_runs.proofs.LeafRows.{length-keys, keys_at, keys-set, keys-insert}
+use Rattle.rga_runs.proofs.LeafRows.{length-keys, keys_at, keys-set}
 use Rattle.rga_runs.proofs.keys.split.Goals as goal
 
 pub unwrap-memory-requires : goal.unwrap-memory-requires
@@ -26,7 +26,7 @@ unwrap-memory-requires c =
 split_keys : (ls all : List Leaf) (b at cut : ℕ) (ok : Bool) (old low high : Leaf) → b < length ls → old ≡ get_or ls b old → at ≡ b + 1 → low.keys.items ≡ take cut old.keys.items → high.keys.items ≡ drop cut old.keys.items
     → all ≡ cond ok (insert (set ls b low) at high) (set ls b low) → ok ≡ true → keys_of all ≡ insert (set (keys_of ls) b (take cut (get_or (keys_of ls) b []))) (b + 1) (drop cut (get_or (keys_of ls) b []))
 split_keys ls all b at cut ok old low high there is place lower upper made fits =
-    ap keys_of made ∙ ap (λ t. keys_of (cond t (insert (set ls b low) at high) (set ls b low))) fits ∙ keys-insert (set ls b low) at high
+    ap keys_of made ∙ ap (λ t. keys_of (cond t (insert (set ls b low) at high) (set ls b low))) fits ∙ map-insert (λ (l : Leaf). l.keys.items) (set ls b low) at high
     ∙ (λ i. insert (keys-set ls b old low (take cut) there is lower i) (place i) ((upper ∙ ap (drop cut) (sym (keys_at ls b old there is))) i))
 
 pub invariant_of-keys : goal.invariant_of-keys

@@ -1,5 +1,5 @@
 -- The goals of `spot_behind` that are answered by hand.
-use Rattle.std.proofs.Common.{◌<◌, ◌≤◌, ◌+◌, [], length, get_or, ap, arith}
+use Rattle.std.proofs.Common.{◌<◌, ◌+◌, [], length, get_or, ap, arith}
 use Rattle.rga_runs.specs.declared.key.Key.{Key}
 use Rattle.rga_runs.specs.Keyed.{rank}
 use Rattle.rga_runs.specs.Leaves.{keys_of}

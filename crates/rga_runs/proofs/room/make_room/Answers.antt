@@ -1,5 +1,5 @@
 -- The goals of `make_room` that are answered by hand.
-use Rattle.std.proofs.Common.{◌≡◌, ℕ, ◌+◌, ◌<◌, ◌∙◌, [], refl, ap, take, drop, length, get_or, arith}
+use Rattle.std.proofs.Common.{◌≡◌, ℕ, ◌+◌, ◌<◌, [], refl, take, drop, length, get_or, arith}
 use Rattle.std.specs.Prelude.{insert, set, vec_len}
 use Rattle.rga_runs.specs.declared.row.Row.{Row}
 use Rattle.rga_runs.specs.BlockRows.{items_of}

@@ -1,13 +1,12 @@
 -- The goals of `rehome` that are answered by hand.
 use Rattle.std.proofs.Common.{◌≡◌, ◌∙◌, get_or, sym, subst}
 use Rattle.std.specs.Prelude.{All}
-use Rattle.std.proofs.lemmas.List.{take_all}
+use Rattle.std.proofs.lemmas.List.{take_all, get_or_default}
 use Rattle.rga_runs.specs.declared.stretch.Stretch.{Stretch}
 use Rattle.rga_runs.specs.Stretches.{IsOutside}
 use Rattle.rga_runs.specs.Keyed.{look_in}
 use Rattle.rga_runs.specs.Leaves.{all_keys}
 use Rattle.rga_runs.specs.Indexed.{IsHome}
-use Rattle.rga_runs.proofs.Chunks.{any_item}
 use Rattle.rga_runs.proofs.Homes.{first_fits, first_home, renewed, home_kept, known_more}
 use Rattle.rga_runs.proofs.room.rehome.Goals as goal
 
@@ -15,13 +14,13 @@ pub renew-requires-clause-there : goal.renew-requires-clause-there
 renew-requires-clause-there c =
     let left = c.loop-at.invariant.left in
     let s = get_or c.args.moved.now c.loop-at.at c.index-moved-at.result in
-    (left.0, first_home (look_in (all_keys c.loop-at.keys.leaves.items)) left.0 c.args.moved.now c.loop-at.at s c.loop-at-test.true (any_item c.args.moved.now c.loop-at.at c.index-moved-at.result s c.loop-at-test.true) left.1)
+    (left.0, first_home (look_in (all_keys c.loop-at.keys.leaves.items)) left.0 c.args.moved.now c.loop-at.at s c.loop-at-test.true (get_or_default c.args.moved.now c.loop-at.at c.index-moved-at.result s c.loop-at-test.true) left.1)
 
 pub loop-at-preserved : goal.loop-at-preserved
 loop-at-preserved c =
     let i = c.loop-at.invariant in
     let s = get_or c.args.moved.now c.loop-at.at c.index-moved-at.result in
-    let is : s ≡ get_or c.args.moved.now c.loop-at.at s = any_item c.args.moved.now c.loop-at.at c.index-moved-at.result s c.loop-at-test.true in
+    let is : s ≡ get_or c.args.moved.now c.loop-at.at s = get_or_default c.args.moved.now c.loop-at.at c.index-moved-at.result s c.loop-at-test.true in
     let old = look_in (all_keys c.loop-at.keys.leaves.items) in
     let new = look_in (all_keys c.renew.new.keys.leaves.items) in
     let gains = c.renew.ensures.looks in

@@ -3,7 +3,8 @@ use Rattle.std.proofs.Common.{◌≡◌, ◌+◌, ◌%◌, ◌∙◌, [], true, 
 use Rattle.std.specs.Prelude.{is_ok, insert, set}
 use Rattle.rga_runs.specs.declared.block.Block.{Block}
 use Rattle.rga_runs.specs.BlockRows.{items_of, numbers_of}
-use Rattle.rga_runs.proofs.BlockLists.{items_at, items-set, items-insert, numbers-set, numbers-insert}
+use Rattle.rga_runs.proofs.BlockLists.{items_at, items-set, numbers-set}
+use Rattle.rga_runs.proofs.Chunks.{map-insert}
 use Rattle.rga_runs.proofs.room.split_at.Goals as goal
 
 pub returns-clause-items : goal.returns-clause-items
@@ -20,7 +21,7 @@ returns-clause-items c =
     items-set bs.items q old low (take c.args.cut) (omega (arith, c.requires.block, bs.ok)) c.index_mut.ensures.value c.split-upper.ensures.items in
     let place : (q + 1) % 9223372036854775808 ≡ q + 1 = omega (arith, c.requires.block, bs.ok, bs.small) in
     ap items_of (c.insert.ensures.items ∙ (λ i. cond (ok i) (insert all (place i) high) all))
-    ∙ items-insert all (q + 1) high ∙ (λ i. insert (first i) (q + 1) ((c.split-upper.ensures.upper ∙ ap (drop c.args.cut) (sym here)) i))
+    ∙ map-insert (λ (b : Block). b.stretches.items) all (q + 1) high ∙ (λ i. insert (first i) (q + 1) ((c.split-upper.ensures.upper ∙ ap (drop c.args.cut) (sym here)) i))
 
 pub returns-clause-numbers : goal.returns-clause-numbers
 returns-clause-numbers c =
@@ -33,4 +34,4 @@ returns-clause-numbers c =
     let ok : is_ok c.insert.result ≡ true = ap is_ok c.unwrap.ensures in
     let place : (q + 1) % 9223372036854775808 ≡ q + 1 = omega (arith, c.requires.block, bs.ok, bs.small) in
     ap numbers_of (c.insert.ensures.items ∙ (λ i. cond (ok i) (insert all (place i) high) all))
-    ∙ numbers-insert all (q + 1) high ∙ (λ i. insert (numbers-set bs.items q old low (omega (arith, c.requires.block, bs.ok)) c.index_mut.ensures.value c.split-upper.ensures.number i) (q + 1) (c.split-upper.ensures.upper_number i))
+    ∙ map-insert (λ (b : Block). b.number) all (q + 1) high ∙ (λ i. insert (numbers-set bs.items q old low (omega (arith, c.requires.block, bs.ok)) c.index_mut.ensures.value c.split-upper.ensures.number i) (q + 1) (c.split-upper.ensures.upper_number i))

@@ -1,7 +1,7 @@
 -- The goal of `grow` that is answered by hand.
-use Rattle.std.proofs.Common.{◌≡◌, ◌++◌, ◌/◌, ℕ, ◌<◌, ◌+◌, ◌∙◌, [], sym, ap, subst, length, get_or, take, drop, List, length-set, arith}
+use Rattle.std.proofs.Common.{◌≡◌, ◌++◌, ◌/◌, ℕ, ◌<◌, ◌+◌, ◌∙◌, [], sym, ap, subst, length, get_or, take, drop, List, arith}
 use Rattle.std.specs.Prelude.{All, set, slice_get}
-use Rattle.std.proofs.lemmas.List.{take_at}
+use Rattle.std.proofs.lemmas.List.{take_at, length-set, get_or_default}
 use Rattle.std.proofs.lemmas.List.Elements.{All-set}
 use Rattle.bg_types.specs.Identifier.{Identifier}
 use Rattle.rga_runs.specs.declared.stretch.Stretch.{Stretch}
@@ -16,7 +16,7 @@ use Rattle.rga_runs.specs.Keyed.{look_in}
 use Rattle.rga_runs.specs.KeyRows.{keys_in}
 use Rattle.rga_runs.specs.Indexed.{IsHome, AreHome, AreKnown}
 use Rattle.rga_runs.proofs.BlockLists.{length-items, items_at, items-set, numbers-set}
-use Rattle.rga_runs.proofs.Chunks.{set_row, get_or_row, at_less, one_there, any_item, length_set}
+use Rattle.rga_runs.proofs.Chunks.{set_row, get_or_row, at_less, one_there}
 use Rattle.rga_runs.proofs.Halves.{AreHalfFull-set}
 use Rattle.rga_runs.proofs.Homes.{told, homes_set, home_grown}
 use Rattle.rga_runs.proofs.Known.{known_set}
@@ -49,7 +49,7 @@ returns c =
     let items : items_of new ≡ set xs b (set x j s) = items-set bs b old_block c.grow.new.self (λ l. set l j s) some at e.2 in
     let numbers : numbers_of new ≡ ns = numbers-set bs b old_block c.grow.new.self some at c.grow.ensures.number in
     let row_is : row_of (items_of new) ≡ set (row_of xs) p s = ap row_of items ∙ set_row xs b j s there c.requires.within in
-    let long : length (row_of (items_of new)) ≡ length (row_of xs) = ap length row_is ∙ length_set (row_of xs) p s in
+    let long : length (row_of (items_of new)) ≡ length (row_of xs) = ap length row_is ∙ length-set (row_of xs) p s in
     let look = look_in (keys_in r.keys) in
     let item = λ (z : Stretch). get_or_row xs b j z there c.requires.within in
     let old = get_or x j d in
@@ -63,7 +63,7 @@ returns c =
     let kept : take r.sums.len (c.raise.new.sums ++ drop (length c.raise.new.sums) r.sums.items) ≡ c.raise.new.sums =
     take_at c.raise.new.sums (drop (length c.raise.new.sums) r.sums.items) r.sums.len (omega (arith, c.raise.auto.sums, c.deref_mut.ensures.len)) in
     record {
-      row = λ d2. (s, subst (λ (z : Stretch). IsGrown z s more) (any_item x j d d2 c.requires.within ∙ sym (item d2)) is, row_is);
+      row = λ d2. (s, subst (λ (z : Stretch). IsGrown z s more) (get_or_default x j d d2 c.requires.within ∙ sym (item d2)) is, row_is);
       indexed = record {
         homes = subst (λ ys. AreHome look ys (numbers_of new)) (sym items) (subst (AreHome look (set xs b (set x j s))) (sym numbers)
             (homes_set look xs ns b (set x j s) there was.homes (All-set (IsHome look (get_or ns b 0)) x j s own (was.homes b there))));
@@ -74,7 +74,7 @@ returns c =
         as_many = was.as_many;
         keyed = omega (arith, was.keyed, long);
         counted = omega (arith, was.counted, long);
-        halves = subst AreHalfFull (sym items) (AreHalfFull-set xs b (set x j s) was.halves (omega (arith, length_set x j s)));
+        halves = subst AreHalfFull (sym items) (AreHalfFull-set xs b (set x j s) was.halves (omega (arith, length-set x j s)));
         bounds = subst (AreBounds r.bounds.items) (sym items) (bounds-same r.bounds.items xs b (set x j s) (λ m h. low_set m x j d s h c.requires.within is.first) was.bounds);
         sums = subst (λ l. AreSums l (items_of new)) (sym kept) (subst (AreSums c.raise.new.sums) (sym items) changed);
         few = was.few;

@@ -1,8 +1,9 @@
 -- The goals of `part` that are answered by hand.
-use Rattle.std.proofs.Common.{◌≡◌, ℕ, ◌<◌, ◌≤◌, ◌+◌, ◌-◌, ◌∙◌, [], List, not, sym, ap, subst, length, get_or, length-set, arith}
+use Rattle.std.proofs.Common.{◌≡◌, ℕ, ◌<◌, ◌≤◌, ◌+◌, ◌-◌, ◌∙◌, [], List, not, sym, ap, subst, length, get_or, arith}
 use Rattle.std.specs.Prelude.{insert, set, slice_get}
 use Rattle.std.proofs.lemmas.List.Edits.{length-insert}
 use Rattle.std.specs.Ordering.{is_lt}
+use Rattle.std.proofs.lemmas.List.{take-set, length-set, get_or_default, get_or-set_same}
 use Rattle.bg_types.specs.Identifier.{id_cmp}
 use Rattle.rga_runs.specs.declared.stretch.Stretch.{Stretch}
 use Rattle.rga_runs.specs.declared.block.Block.{Block}
@@ -17,7 +18,7 @@ use Rattle.rga_runs.specs.Keyed.{look_in}
 use Rattle.rga_runs.specs.KeyRows.{keys_in}
 use Rattle.rga_runs.specs.Indexed.{AreHome, AreKnown}
 use Rattle.rga_runs.proofs.BlockLists.{length-items, items_there, items_at, items-set, length-numbers, numbers-set, number_there, few_stretches}
-use Rattle.rga_runs.proofs.Chunks.{part_row, get_or_row, at_less, one_there, any_item, there_set, front_set, length_set}
+use Rattle.rga_runs.proofs.Chunks.{part_row, get_or_row, at_less, one_there}
 use Rattle.rga_runs.proofs.Halves.{AreHalfFull-set}
 use Rattle.rga_runs.proofs.Homes.{Gains}
 use Rattle.rga_runs.proofs.Known.{homes_parted, known_parted}
@@ -123,7 +124,7 @@ returns c =
     let numbers : numbers_of new ≡ ns = numbers-set bs q block c.part-first.new.self some value c.part-first.ensures.number in
     let row_is : row_of (items_of new) ≡ insert (set (row_of ys) (at_spot ys q i) low) (at_spot ys q i + 1) rest = ap row_of items ∙ part_row ys q i low rest there within in
     let less = at_less ys q i there within in
-    let long_set : length (set (row_of ys) (at_spot ys q i) low) ≡ length (row_of ys) = length_set (row_of ys) (at_spot ys q i) low in
+    let long_set : length (set (row_of ys) (at_spot ys q i) low) ≡ length (row_of ys) = length-set (row_of ys) (at_spot ys q i) low in
     let long : length (row_of (items_of new)) ≡ length (row_of ys) + 1 =
     ap length row_is ∙ length-insert (set (row_of ys) (at_spot ys q i) low) (at_spot ys q i + 1) rest (omega (arith, long_set, less)) ∙ omega (arith, long_set) in
     let spot : at_spot ys q i ≡ p = omega (arith, c.make_room-q.ensures.place, behind) in
@@ -140,16 +141,16 @@ returns c =
     let known = known_parted look old_look (get_or ns q 0) (row_of ys) (at_spot ys q i) d low rest less gains (is.first ∙ ap (λ (z : Stretch). z.first) (sym row_item))
     (begins ∙ ap (λ (z : Stretch). later z.first low.count) (sym row_item)) (count ∙ ap (λ (z : Stretch). z.count) (sym row_item)) was.known in
     let z = insert (set y i low) (i + 1) rest in
-    let longer : length z ≡ length y + 1 = omega (arith, length-insert (set y i low) (i + 1) rest (omega (arith, length_set y i low, within)), length_set y i low) in
+    let longer : length z ≡ length y + 1 = omega (arith, length-insert (set y i low) (i + 1) rest (omega (arith, length-set y i low, within)), length-set y i low) in
     record {
       block = c.make_room-q.ensures.block;
-      within = omega (arith, ap (λ zs. length (get_or zs q [])) items, ap length (there_set ys q z there), longer, c.make_room-q.ensures.within);
+      within = omega (arith, ap (λ zs. length (get_or zs q [])) items, ap length (get_or-set_same ys q z [] there), longer, c.make_room-q.ensures.within);
       behind = behind;
-      place = ap (λ zs. at_spot zs q at) items ∙ ap (λ zs. length (row_of zs) + at) (front_set ys q z) ∙ omega (arith, c.make_room-q.ensures.place);
+      place = ap (λ zs. at_spot zs q at) items ∙ ap (λ zs. length (row_of zs) + at) (take-set ys q z) ∙ omega (arith, c.make_room-q.ensures.place);
       row = λ d2. (
         low,
         rest,
-        subst (λ (s : Stretch). IsParted s low rest c.args.k) (any_item y i d d2 within ∙ item d2 ∙ sym (get_or_row xs c.args.b c.args.j d2 old_there c.requires.within)) is,
+        subst (λ (s : Stretch). IsParted s low rest c.args.k) (get_or_default y i d d2 within ∙ item d2 ∙ sym (get_or_row xs c.args.b c.args.j d2 old_there c.requires.within)) is,
         row_is ∙ (λ t. insert (set (c.make_room-q.ensures.row t) (spot t) low) (spot t + 1) rest),
       );
       indexed = record {

@@ -3,6 +3,7 @@ use Rattle.std.proofs.Common.{◌≡◌, ℕ, zero, suc, ◌<◌, ◌+◌, ◌*�
 use Rattle.std.specs.Prelude.{All, slice_get, is_ok, vec_len}
 use Rattle.std.specs.Option.{option_to_list}
 use Rattle.std.proofs.lemmas.List.Elements.{All-cons, All-nil}
+use Rattle.std.proofs.lemmas.List.{nil_from_length}
 use Rattle.rga_runs.specs.declared.stretch.Stretch.{Stretch}
 use Rattle.rga_runs.specs.Blocks.{row_of, AreHalfFull}
 use Rattle.rga_runs.specs.BlockRows.{items_of, numbers_of}
@@ -10,7 +11,6 @@ use Rattle.rga_runs.specs.Sums.{AreSums}
 use Rattle.rga_runs.specs.Keyed.{look_in}
 use Rattle.rga_runs.specs.KeyRows.{keys_in}
 use Rattle.rga_runs.specs.Indexed.{stretches_in, IsHome, AreHome, AreKnown}
-use Rattle.rga_runs.proofs.BlockLists.{length_none}
 use Rattle.rga_runs.proofs.Halves.{some_spare}
 use Rattle.rga_runs.proofs.Known.{home_lone, known_insert}
 use Rattle.rga_runs.proofs.Taken.{one_more}
@@ -28,7 +28,7 @@ put-requires-clause-room c = λ none. omega (arith, none, c.requires.indexed.key
 pub returns : goal.returns
 returns c =
     let r = c.args.row.now in
-    let none : r.blocks.items ≡ [] = length_none r.blocks.items (omega (arith, c.requires.none, r.blocks.ok)) in
+    let none : r.blocks.items ≡ [] = nil_from_length r.blocks.items (omega (arith, c.requires.none, r.blocks.ok)) in
     let block = c.lone-block.result in
     let e = c.lone-block.ensures.items in
     let s = e.0 in
@@ -37,7 +37,7 @@ returns c =
     let items : items_of c.push.new.self.items ≡ (s ∷ []) ∷ [] = ap items_of blocks ∙ ap (λ l. l ∷ []) e.2 in
     let numbers : numbers_of c.push.new.self.items ≡ 0 ∷ [] = ap numbers_of blocks ∙ ap (λ k. k ∷ []) c.lone-block.ensures.number in
     let ok2 : is_ok c.push-2.result ≡ true = ap is_ok c.unwrap-2.ensures in
-    let no_places : r.places.items ≡ [] = length_none r.places.items (omega (arith, c.requires.none, c.requires.indexed.as_many, r.places.ok)) in
+    let no_places : r.places.items ≡ [] = nil_from_length r.places.items (omega (arith, c.requires.none, c.requires.indexed.as_many, r.places.ok)) in
     let places : c.push-2.new.self.items ≡ 0 ∷ [] = c.push-2.ensures.items ∙ (λ i. cond (ok2 i) (no_places i ++ 0 ∷ []) (no_places i)) in
     let fewer : vec_len c.pop.new.self + 1 ≡ vec_len r.spares = omega (arith, c.pop.ensures.len, ap (λ o. length (option_to_list o)) c.unwrap-stretches.ensures) in
     let row_is : row_of (items_of c.push.new.self.items) ≡ s ∷ [] = ap row_of items in

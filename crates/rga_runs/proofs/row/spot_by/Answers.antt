@@ -1,6 +1,8 @@
 -- The goals of `spot_by` that are answered by hand.
 use Rattle.std.proofs.Common.{◌≡◌, ℕ, ◌<◌, ◌∙◌, [], List, length, get_or, sym, ap, subst, arith}
 use Rattle.std.specs.Prelude.{All}
+use Rattle.std.proofs.lemmas.List.{get_or_default}
+use Rattle.std.proofs.lemmas.Option.{slice_get_within, get_or_from_slice_get}
 use Rattle.rga_runs.specs.declared.stretch.Stretch.{Stretch}
 use Rattle.rga_runs.specs.declared.block.Block.{Block}
 use Rattle.rga_runs.specs.declared.row.Row.{Row}
@@ -12,16 +14,15 @@ use Rattle.rga_runs.specs.KeyRows.{keys_in}
 use Rattle.rga_runs.specs.Indexed.{IsIndexed}
 use Rattle.rga_runs.proofs.Apart.{one_first}
 use Rattle.rga_runs.proofs.BlockLists.{length-items, items_at}
-use Rattle.rga_runs.proofs.Chunks.{get_or_row, at_less, any_item}
+use Rattle.rga_runs.proofs.Chunks.{get_or_row, at_less}
 use Rattle.rga_runs.proofs.Homes.{outside_begun}
-use Rattle.rga_runs.proofs.Numbers.{slice_get-within, slice_get-value}
 use Rattle.rga_runs.proofs.row.spot_by.Goals as goal
 
 -- the place that is read for the number of a block
 place_read : (r : Row) (b n p : ℕ) → IsIndexed r → b < length (items_of r.blocks.items) → n ≡ get_or (numbers_of r.blocks.items) b 0 → p ≡ get_or r.places.items n p → p ≡ b
 place_read r b n p indexed there number read =
     read ∙ ap (λ m. get_or r.places.items m p) number
-    ∙ slice_get-value r.places.items (get_or (numbers_of r.blocks.items) b 0) b p (indexed.places b (omega (arith, there, length-items r.blocks.items)))
+    ∙ get_or_from_slice_get r.places.items (get_or (numbers_of r.blocks.items) b 0) b p (indexed.places b (omega (arith, there, length-items r.blocks.items)))
 
 -- the block that is read there
 block_read : (r : Row) (b p : ℕ) (x : Block) → b < length (items_of r.blocks.items) → p ≡ b → x ≡ get_or r.blocks.items p x → get_or (items_of r.blocks.items) b [] ≡ x.stretches.items
@@ -34,7 +35,7 @@ returns-in_err-b-clause-absent c =
     let bs = r.blocks.items in
     let key = c.args.key.now in
     rw c.from_residual.ensures (outside_begun (look_in (keys_in r.keys)) (items_of bs) (numbers_of bs) c.args.id key.first key.number c.requires.indexed.homes c.requires.found (λ b there number j d less first.
-    let few = slice_get-within r.places.items (get_or (numbers_of bs) b 0) b (c.requires.indexed.places b (omega (arith, there, length-items bs))) in
+    let few = slice_get_within r.places.items (get_or (numbers_of bs) b 0) b (c.requires.indexed.places b (omega (arith, there, length-items bs))) in
     let past = c.in_err-b.ensures.lookup.3 in
     absurd (omega (arith, number, few, past, ap length c.deref.ensures.value))))
 
@@ -91,5 +92,5 @@ returns-in_err-k-clause-absent c =
     ap (λ (z : Stretch). z.first) (get_or_row xs b j d there less) ∙ first ∙ sym begun ∙ ap (λ (z : Stretch). z.first) (sym (get_or_row xs b i d there within)) in
     let spot = one_first (row_of xs) (at_spot xs b j) (at_spot xs b i) d c.requires.apart (at_less xs b j there less) (at_less xs b i there within) same in
     let place : i ≡ j = omega (arith, spot) in
-    let one : s ≡ get_or y j d = stretch ∙ ap (λ (l : List Stretch). get_or l i s) (sym here) ∙ any_item y i s d within ∙ ap (λ n. get_or y n d) place in
+    let one : s ≡ get_or y j d = stretch ∙ ap (λ (l : List Stretch). get_or l i s) (sym here) ∙ get_or_default y i s d within ∙ ap (λ n. get_or y n d) place in
     subst (λ (z : Stretch). IsOutside c.args.id z) one c.in_err-k.ensures.absent))

@@ -1,9 +1,9 @@
 -- The goals of `landing` that are answered by hand.
 use Rattle.std.proofs.Common.{◌≡◌, ◌+◌, ◌-◌, ◌∙◌, [], length, take, get_or, sym, ap, arith}
+use Rattle.std.proofs.lemmas.List.{get_or_past}
 use Rattle.rga_runs.specs.Blocks.{row_of, passed}
 use Rattle.rga_runs.specs.BlockRows.{items_of}
 use Rattle.rga_runs.proofs.BlockLists.{items_there, length-items}
-use Rattle.rga_runs.proofs.Chunks.{none_there}
 use Rattle.rga_runs.proofs.skip.landing.Goals as goal
 
 pub returns-then-q-blocks-clause-place : goal.returns-then-q-blocks-clause-place
@@ -11,7 +11,7 @@ returns-then-q-blocks-clause-place c =
     let bs = c.args.blocks.now in
     let q = c.args.q in
     let whole : q - 1 + 1 ≡ q = omega (arith, c.requires.some) in
-    let none : get_or (items_of bs) q [] ≡ [] = none_there (items_of bs) q (omega (arith, c.if-q-blocks.true, length-items bs)) in
+    let none : get_or (items_of bs) q [] ≡ [] = get_or_past (items_of bs) q [] (omega (arith, c.if-q-blocks.true, length-items bs)) in
     c.end_of.ensures.place ∙ omega (arith, ap (λ n. length (row_of (take n (items_of bs)))) whole, ap (passed c.args.id) none)
 
 pub returns-then-at-eq0-clause-place : goal.returns-then-at-eq0-clause-place

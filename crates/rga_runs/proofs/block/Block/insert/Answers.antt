@@ -2,12 +2,13 @@
 use Rattle.std.proofs.Common.{◌≡◌, ◌∙◌, true, not, cond, sym, ap, subst, arith}
 use Rattle.std.specs.Prelude.{insert}
 use Rattle.std.specs.Ordering.{is_lt}
+use Rattle.std.proofs.lemmas.List.Sums.{sum_by-insert}
 use Rattle.bg_types.specs.Identifier.{id_cmp}
 use Rattle.rga_runs.specs.declared.stretch.Stretch.{Stretch}
 use Rattle.rga_runs.specs.Stretches.{count_in, visible_in, visible_of}
 use Rattle.rga_runs.specs.Blocks.{none_below}
 use Rattle.rga_runs.proofs.Low.{low_insert, low_lesser}
-use Rattle.rga_runs.proofs.Sums.{sum-insert, few_counted, few_visible, visible_le}
+use Rattle.rga_runs.proofs.Sums.{few_counted, few_visible, visible_le}
 use Rattle.rga_runs.proofs.block.Block.insert.Goals as goal
 
 pub overflow_add-self : goal.overflow_add-self
@@ -24,7 +25,7 @@ invariant_of-self-clause-counted c =
     let new = c.lone-new.result in
     let items : c.put_in.new.list.items ≡ insert ss c.args.j new = c.put_in.ensures.items in
     let is = c.args.self.now.counted in
-    omega (arith, is, ap count_in items, sum-insert (λ (s : Stretch). s.count) ss c.args.j new, c.lone-new.ensures.count)
+    omega (arith, is, ap count_in items, sum_by-insert (λ (s : Stretch). s.count) ss c.args.j new, c.lone-new.ensures.count)
 
 pub invariant_of-self-clause-visible_are : goal.invariant_of-self-clause-visible_are
 invariant_of-self-clause-visible_are c =
@@ -32,7 +33,7 @@ invariant_of-self-clause-visible_are c =
     let new = c.lone-new.result in
     let items : c.put_in.new.list.items ≡ insert ss c.args.j new = c.put_in.ensures.items in
     let is = c.args.self.now.visible_are in
-    omega (arith, is, ap visible_in items, sum-insert visible_of ss c.args.j new, c.visible.ensures)
+    omega (arith, is, ap visible_in items, sum_by-insert visible_of ss c.args.j new, c.visible.ensures)
 
 pub invariant_of-self-clause-low : goal.invariant_of-self-clause-low
 invariant_of-self-clause-low c =

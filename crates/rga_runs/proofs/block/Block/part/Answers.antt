@@ -2,15 +2,15 @@
 use Rattle.std.proofs.Common.{◌+◌, ◌∙◌, not, get_or, refl, ap, subst, arith}
 use Rattle.std.specs.Prelude.{set}
 use Rattle.std.specs.Ordering.{is_lt}
+use Rattle.std.proofs.lemmas.List.{get_or_read}
+use Rattle.std.proofs.lemmas.List.Sums.{sum_by-insert, sum_by-set}
 use Rattle.bg_types.specs.Identifier.{id_cmp}
 use Rattle.rga_runs.specs.declared.stretch.Stretch.{Stretch}
 use Rattle.rga_runs.specs.Changed.{IsParted}
 use Rattle.rga_runs.specs.Typed.{later}
 use Rattle.rga_runs.specs.Stretches.{count_in, visible_in, visible_of}
 use Rattle.rga_runs.specs.Blocks.{none_below}
-use Rattle.rga_runs.proofs.Chunks.{item_is}
 use Rattle.rga_runs.proofs.Low.{low_set, low_insert, low_at, later_above}
-use Rattle.rga_runs.proofs.Sums.{sum-set, sum-insert}
 use Rattle.rga_runs.proofs.block.Block.part.Goals as goal
 
 pub invariant_of-self-clause-counted : goal.invariant_of-self-clause-counted
@@ -25,8 +25,8 @@ invariant_of-self-clause-counted c =
       arith,
       is,
       ap count_in c.put_in.ensures.items,
-      sum-insert (λ (s : Stretch). s.count) (set ss j low) (j + 1) c.part-rest.result,
-      sum-set (λ (s : Stretch). s.count) ss j old low c.requires.there,
+      sum_by-insert (λ (s : Stretch). s.count) (set ss j low) (j + 1) c.part-rest.result,
+      sum_by-set (λ (s : Stretch). s.count) ss j low old c.requires.there,
       ap (λ (s : Stretch). s.count) c.index_mut.ensures.value,
       e.count,
       e.rest_count,
@@ -43,8 +43,8 @@ invariant_of-self-clause-visible_are c =
       arith,
       is,
       ap visible_in c.put_in.ensures.items,
-      sum-insert visible_of (set ss j low) (j + 1) c.part-rest.result,
-      sum-set visible_of ss j old low c.requires.there,
+      sum_by-insert visible_of (set ss j low) (j + 1) c.part-rest.result,
+      sum_by-set visible_of ss j low old c.requires.there,
       ap visible_of c.index_mut.ensures.value,
       c.part-rest.ensures.visible,
     )
@@ -83,4 +83,4 @@ returns-clause-items c = λ d.
       rest_start = e.rest_start;
       visible = e.visible;
     } in
-    (low, rest, subst (λ (s : Stretch). IsParted s low rest c.args.k) (item_is ss j old d c.requires.there c.index_mut.ensures.value) is, refl, c.put_in.ensures.items)
+    (low, rest, subst (λ (s : Stretch). IsParted s low rest c.args.k) (get_or_read ss j old c.requires.there c.index_mut.ensures.value d) is, refl, c.put_in.ensures.items)

@@ -5,15 +5,16 @@ use Rattle.std.proofs.Math.Seq.{paste}
 use Rattle.std.specs.List.{sum_by}
 use Rattle.std.proofs.lemmas.List.{length-take-le, take_all, take-append-drop}
 use Rattle.std.proofs.lemmas.List.Edits.{take-paste}
+use Rattle.std.proofs.lemmas.List.Sums.{sum_by-append}
 use Rattle.rga_runs.specs.declared.stretch.Stretch.{Stretch}
 use Rattle.rga_runs.specs.Stretches.{count_in, visible_in, visible_of}
 use Rattle.rga_runs.specs.Blocks.{none_below}
-use Rattle.rga_runs.proofs.Sums.{few_counted, few_visible, sum-append}
+use Rattle.rga_runs.proofs.Sums.{few_counted, few_visible}
 use Rattle.rga_runs.proofs.block.Block.split.Goals as goal
 
 -- those that stay and those that move
 in_two : (f : Stretch → ℕ) (ss : List Stretch) (cut : ℕ) → sum_by f ss ≡ sum_by f (take cut ss) + sum_by f (drop cut ss)
-in_two f ss cut = ap (sum_by f) (sym (take-append-drop cut ss)) ∙ sum-append f (take cut ss) (drop cut ss)
+in_two f ss cut = ap (sum_by f) (sym (take-append-drop cut ss)) ∙ sum_by-append f (take cut ss) (drop cut ss)
 
 pub slice_bounds-extend_from_slice-end : goal.slice_bounds-extend_from_slice-end
 slice_bounds-extend_from_slice-end c =

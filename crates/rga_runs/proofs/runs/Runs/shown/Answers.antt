@@ -1,6 +1,7 @@
 -- The goals of `shown` that are answered by hand.
 use Rattle.std.proofs.Common.{◌≡◌, ◌+◌, ◌<◌, ◌∙◌, [], List, Some, false, length, take, get_or, refl, sym, ap, subst, arith}
 use Rattle.std.specs.Prelude.{slice_get, vec_len}
+use Rattle.std.proofs.lemmas.List.{get_or_default}
 use Rattle.rga_tree.proofs.Interface.{seen_at, visible_at, visible_row}
 use Rattle.rga_tree.specs.declared.element.Element.{Element}
 use Rattle.rga_runs.specs.declared.stretch.Stretch.{Stretch}
@@ -12,7 +13,7 @@ use Rattle.rga_runs.specs.BlockRows.{items_of}
 use Rattle.rga_runs.specs.Sums.{AreSums}
 use Rattle.rga_runs.specs.Indexed.{stretches_in, stretches_for}
 use Rattle.rga_runs.proofs.BlockLists.{length-items}
-use Rattle.rga_runs.proofs.Chunks.{get_or_row, at_less, one_there, any_item}
+use Rattle.rga_runs.proofs.Chunks.{get_or_row, at_less, one_there}
 use Rattle.rga_runs.proofs.Rows.{stored_at, element_at}
 use Rattle.rga_runs.proofs.Summed.{few_seen}
 use Rattle.rga_runs.proofs.Taken.{noted, room_noted}
@@ -79,8 +80,8 @@ returns c =
       block = omega (arith, there, length-items r.blocks.items, r.blocks.ok);
       within = within;
       inside = inside;
-      id = λ e. (found _ it).0 ∙ ap (λ (s : Stretch). Some (later s.first k)) (item ∙ any_item (get_or xs b []) j d e within);
-      ch = λ e x read. (found x (ap (λ (s : Stretch). slice_get (elements_of chars s) k) (item ∙ any_item (get_or xs b []) j d e within) ∙ read)).1;
+      id = λ e. (found _ it).0 ∙ ap (λ (s : Stretch). Some (later s.first k)) (item ∙ get_or_default (get_or xs b []) j d e within);
+      ch = λ e x read. (found x (ap (λ (s : Stretch). slice_get (elements_of chars s) k) (item ∙ get_or_default (get_or xs b []) j d e within) ∙ read)).1;
       content = refl;
       room = refl;
     }

@@ -1,6 +1,7 @@
 -- The goals of `part_len` that are answered by hand.
 use Rattle.std.proofs.Common.{◌≡◌, true, ◌<◌, ◌*◌, ◌/◌, ◌%◌, ◌∙◌, [], List, length, get_or, sym, ap, arith}
 use Rattle.std.proofs.lemmas.Bool.{ltb-true}
+use Rattle.std.proofs.lemmas.List.{get_or_past}
 use Rattle.rga_runs.specs.declared.stretch.Stretch.{Stretch}
 use Rattle.rga_runs.specs.Stretches.{elements_of, parts_in, is_stored}
 use Rattle.rga_runs.specs.Filled.{filled}
@@ -8,7 +9,7 @@ use Rattle.rga_runs.specs.Blocks.{row_of, at_spot}
 use Rattle.rga_runs.specs.BlockRows.{items_of}
 use Rattle.rga_runs.specs.Whole.{few_items}
 use Rattle.rga_runs.proofs.BlockLists.{length-items, items_at}
-use Rattle.rga_runs.proofs.Chunks.{none_there, at_less, get_or_row}
+use Rattle.rga_runs.proofs.Chunks.{at_less, get_or_row}
 use Rattle.rga_runs.proofs.Filled.{length-parts_filled, part_at}
 use Rattle.rga_runs.proofs.Rows.{length-parts, length-elements, part_there, stored_at}
 use Rattle.rga_runs.proofs.runs.RunsSequence.part_len.Goals as goal
@@ -62,5 +63,5 @@ returns-in-None c =
     let here = items_at bs b c.index.result.now there c.index.ensures in
     let past = c.in-None.ensures.lookup.3 in
     let none : get_or (filled chars xs) p [] ≡ [] =
-    part_at chars xs p (few_items bs) less ∙ none_there (parts_in chars (get_or xs b [])) j (omega (arith, length-parts chars (get_or xs b []), past, ap length c.deref.ensures.value, ap length here)) in
+    part_at chars xs p (few_items bs) less ∙ get_or_past (parts_in chars (get_or xs b [])) j [] (omega (arith, length-parts chars (get_or xs b []), past, ap length c.deref.ensures.value, ap length here)) in
     sym (ap length none)

@@ -1,7 +1,7 @@
 -- The goals of `push_part` that are answered by hand.
 use Rattle.std.proofs.Common.{◌≡◌, ◌<◌, ◌*◌, ◌/◌, ◌%◌, ◌++◌, ◌∙◌, [], List, length, get_or, sym, ap, subst, arith}
 use Rattle.std.specs.Prelude.{OnOk, string_bytes}
-use Rattle.std.proofs.lemmas.List.{append-nil}
+use Rattle.std.proofs.lemmas.List.{append-nil, get_or_past}
 use Rattle.std.proofs.lemmas.Bool.{ltb-true}
 use Rattle.rga_tree.specs.declared.element.Element.{Element}
 use Rattle.rga_tree.proofs.Interface.{bytes_of}
@@ -12,7 +12,7 @@ use Rattle.rga_runs.specs.Blocks.{row_of, at_spot}
 use Rattle.rga_runs.specs.BlockRows.{items_of}
 use Rattle.rga_runs.specs.Whole.{few_items}
 use Rattle.rga_runs.proofs.BlockLists.{length-items, items_at}
-use Rattle.rga_runs.proofs.Chunks.{none_there, at_less, get_or_row}
+use Rattle.rga_runs.proofs.Chunks.{at_less, get_or_row}
 use Rattle.rga_runs.proofs.Filled.{length-parts_filled, part_at}
 use Rattle.rga_runs.proofs.Rows.{length-parts, part_there, stored_at, stored_le}
 use Rattle.rga_runs.proofs.runs.RunsSequence.push_part.Goals as goal
@@ -85,6 +85,6 @@ returns-in-None c =
     let here = items_at bs b c.index.result.now there c.index.ensures in
     let past = c.in-None.ensures.lookup.3 in
     let none : get_or (filled chars xs) p [] ≡ [] =
-    part_at chars xs p (few_items bs) less ∙ none_there (parts_in chars (get_or xs b [])) j (omega (arith, length-parts chars (get_or xs b []), past, ap length c.deref.ensures.value, ap length here)) in
+    part_at chars xs p (few_items bs) less ∙ get_or_past (parts_in chars (get_or xs b [])) j [] (omega (arith, length-parts chars (get_or xs b []), past, ap length c.deref.ensures.value, ap length here)) in
     let read = string_bytes c.args.read.now in
     sym (ap (λ es. read ++ bytes_of es) none ∙ append-nil read)
