@@ -106,24 +106,13 @@ pub fn add(keys: &mut Keys, id: Id, number: usize, place: usize) -> usize
 {
     let key = Key::of(id, number, place);
     if keys.leaves.is_empty() {
-        begin(keys, key);
+        let memory = keys.spares.pop().unwrap().list;
+        keys.leaves.push_reserved(Leaf::lone(memory, key));
         0
     } else {
         let (b, at) = spot(&keys.leaves, likely_leaf(keys, id), id);
         put_in(keys, b, at, key)
     }
-}
-
-/// Puts in the first key.
-fn begin(keys: &mut Keys, key: Key)
-    requires none { vec_len keys.old.leaves ≡ 0 }
-    requires room { 0 < vec_len keys.old.spares }
-    ensures keys { all_keys keys.new.leaves.items ≡ key ∷ [] }
-    ensures room { vec_len keys.new.leaves + vec_len keys.new.spares ≡ vec_len keys.old.leaves + vec_len keys.old.spares }
-    ensures spares { vec_len keys.old.spares ≤ vec_len keys.new.spares + 1 }
-{
-    let memory = keys.spares.pop().unwrap().list;
-    keys.leaves.push(Leaf::lone(memory, key)).unwrap();
 }
 
 /// Puts a key in where it keeps the order, and answers its leaf.
