@@ -20,23 +20,13 @@ pub fn nth_spot(blocks: &[Block], n: usize) -> (usize, usize, usize)
     ensures inside { (d : Kept) → result.2 < (get_or (get_or (items_of blocks.now) result.0 []) result.1 d).count }
     ensures place { count_in (take (at_spot (items_of blocks.now) result.0 result.1) (row_of (items_of blocks.now))) + result.2 ≡ n }
 {
-    let (b, left) = block_of(blocks, n);
-    let (j, k) = spot_of(&blocks[b].stretches, blocks[b].count, left);
-    (b, j, k)
-}
-
-/// The block of element n, and how many stand before it there.
-fn block_of(blocks: &[Block], n: usize) -> (usize, usize)
-    requires { n < count_in (row_of (items_of blocks.now)) }
-    ensures block { result.0 < length blocks.now }
-    ensures within { result.1 < count_in (get_or (items_of blocks.now) result.0 []) }
-    ensures place { count_in (row_of (take result.0 (items_of blocks.now))) + result.1 ≡ n }
-{
     let mut left = n;
     for b in 0..blocks.len() {
-        let count = blocks[b].count;
+        let block = &blocks[b];
+        let count = block.count;
         if left < count {
-            return (b, left);
+            let (j, k) = spot_of(&block.stretches, count, left);
+            return (b, j, k);
         }
         left -= count;
     }
@@ -55,10 +45,18 @@ pub fn visible_spot(blocks: &[Block], sums: &[usize], n: usize) -> (usize, usize
     ensures place { (d : Kept) → visible_in (take (at_spot (items_of blocks.now) result.0 result.1) (row_of (items_of blocks.now)))
         + unset result.2 (get_or (get_or (items_of blocks.now) result.0 []) result.1 d).hidden ≡ n }
 {
-    let (b, left) = visible_block(blocks, sums, n);
-    let (j, rest) = stretch_of(&blocks[b], left);
-    let k = blocks[b].stretches[j].visible_at(rest);
-    (b, j, k)
+    let (from, rest) = pass_blocks(blocks, sums, n);
+    let mut left = rest;
+    for b in from..blocks.len() {
+        let block = &blocks[b];
+        let visible = block.visible;
+        if left < visible {
+            let (j, rest) = stretch_of(block, left);
+            return (b, j, block.stretches[j].visible_at(rest));
+        }
+        left -= visible;
+    }
+    unreachable!()
 }
 
 /// The stretch of a block that has visible element k of it, and how many visible ones are before that there. Where none is hidden,
@@ -74,27 +72,6 @@ fn stretch_of(block: &Block, k: usize) -> (usize, usize)
     } else {
         visible_stretch(&block.stretches, k)
     }
-}
-
-/// The block of visible element n, and how many visible ones stand before it there.
-fn visible_block(blocks: &[Block], sums: &[usize], n: usize) -> (usize, usize)
-    requires there { n < visible_in (row_of (items_of blocks.now)) }
-    requires sums { AreSums sums.now (items_of blocks.now) }
-    requires few { visible_in (row_of (items_of blocks.now)) < 2 ^ 64 }
-    ensures block { result.0 < length blocks.now }
-    ensures within { result.1 < visible_in (get_or (items_of blocks.now) result.0 []) }
-    ensures place { visible_in (row_of (take result.0 (items_of blocks.now))) + result.1 ≡ n }
-{
-    let (from, rest) = pass_blocks(blocks, sums, n);
-    let mut left = rest;
-    for b in from..blocks.len() {
-        let visible = blocks[b].visible;
-        if left < visible {
-            return (b, left);
-        }
-        left -= visible;
-    }
-    unreachable!()
 }
 
 /// How many visible elements stand before character k of a stretch.

@@ -1,9 +1,9 @@
--- What stays true in the loop of `visible_block`.
+-- What stays true in the loop of `visible_spot`.
 use Rattle.std.proofs.Common.{◌≡◌, ◌+◌, take}
 use Rattle.rga_runs.specs.Stretches.{visible_in}
 use Rattle.rga_runs.specs.Blocks.{row_of}
 use Rattle.rga_runs.specs.BlockRows.{items_of}
-use Rattle.rga_runs.proofs.read.visible_block.Given as goal
+use Rattle.rga_runs.proofs.read.visible_spot.Given as goal
 
 abbrev pub invariant-loop-b : goal.invariant-loop-b
 invariant-loop-b l = visible_in (row_of (take l.b (items_of l.blocks))) + l.left ≡ l.n
