@@ -100,18 +100,12 @@ fn greater_bounds(bounds: &[Id], g: usize, id: Id) -> usize
     ensures count { result ≡ prefix_len (λ m. is_lt (id_cmp id m)) (drop g bounds.now) }
     ensures within { result ≤ length bounds.now - g }
 {
-    if bounds.len() <= g {
-        return 0;
+    for k in g..bounds.len() {
+        if !is_below(id, bounds[k]) {
+            return k - g;
+        }
     }
-    bounds_in_front(&bounds[g..], id)
-}
-
-/// How many bounds at the front are greater than the identifier.
-fn bounds_in_front(bounds: &[Id], id: Id) -> usize
-    ensures count { result ≡ prefix_len (λ m. is_lt (id_cmp id m)) bounds.now }
-    ensures within { result ≤ length bounds.now }
-{
-    bounds.iter().take_while(|m| is_below(id, **m)).count()
+    bounds.len().saturating_sub(g)
 }
 
 /// How many blocks at the front have only stretches that begin with a greater identifier.
