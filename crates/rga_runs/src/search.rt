@@ -20,11 +20,19 @@ pub fn begun_by(stretches: &[Stretch], hint: usize, first: Id) -> Option<usize>
     ensures absent { IfNone result (All (BeginsElsewhere first) stretches.now) }
 {
     let from = hint.min(stretches.len());
-    let behind = &stretches[from..];
-    let likely = from + behind.iter().take_while(|s| first != s.first).count();
-    if likely < stretches.len() && stretches[likely].first == first {
-        return Some(likely);
+    let (front, behind) = stretches.split_at(from);
+    match first_begun_by(behind, first) {
+        Some(j) => Some(from + j),
+        None => first_begun_by(front, first),
     }
+}
+
+/// The first stretch that begins with an identifier.
+fn first_begun_by(stretches: &[Stretch], first: Id) -> Option<usize>
+    ensures there { IfSome result (λ j. j < length stretches.now) }
+    ensures first { IfSome result (λ j. (d : Kept) → (get_or stretches.now j d).first ≡ first) }
+    ensures absent { IfNone result (All (BeginsElsewhere first) stretches.now) }
+{
     for j in 0..stretches.len() {
         if stretches[j].first == first {
             return Some(j);
