@@ -49,8 +49,8 @@ pub fn put(row: &mut Row, id: Id, parent: Place, start: usize, hidden: bool)
     }
 }
 
-/// The spot from which on greater stretches are passed: behind a greater sibling that was put in last, or behind the parent and greater
-/// elements of its stretch. A stretch that has it inside is parted there.
+/// The spot from which on greater stretches are passed: behind a greater sibling that was put in last, or behind the parent. Greater
+/// elements that follow the parent in its own stretch are passed with that, and before one that isn't greater it is parted.
 fn beginning(row: &mut Row, id: Id, parent: &Place) -> (usize, usize)
     requires some { 0 < vec_len row.old.blocks }
     requires parent { IsPlaced parent.now (stretches_in row.old) }
@@ -76,7 +76,14 @@ fn beginning(row: &mut Row, id: Id, parent: &Place) -> (usize, usize)
     }
     match parent {
         Place::Root => (0, 0),
-        Place::After(above) => behind(row, *above, id),
+        Place::After(above) => {
+            let (b, j, k) = spot(row, *above).unwrap();
+            if row.blocks[b].stretches[j].stops(k + 1, id) {
+                part(row, b, j, k + 1)
+            } else {
+                (b, j + 1)
+            }
+        }
     }
 }
 
@@ -102,35 +109,6 @@ fn behind_sibling(row: &Row, id: Id, parent: &Place) -> Option<(usize, usize)>
         Some((b, j + 1))
     } else {
         None
-    }
-}
-
-/// What follows an element, for a child of it: greater elements that follow in its own stretch are passed with that, and before one
-/// that isn't greater it is parted.
-fn behind(row: &mut Row, above: Id, id: Id) -> (usize, usize)
-    requires parent { All (IsOutside above) (stretches_in row.old) → ⊥ }
-    requires apart { AreApart (stretches_in row.old) }
-    requires indexed { IsIndexed row.old }
-    requires room { HasRoom row.old 1 }
-    ensures block { result.0 < vec_len row.new.blocks }
-    ensures within { result.1 ≤ length (get_or (items_of row.new.blocks.items) result.0 []) }
-    ensures place { (chars : List ℕ) → are_stored (length chars) (stretches_in row.old) ≡ true
-        → let p = at_spot (items_of row.new.blocks.items) result.0 result.1 in
-        length (joined (take p (parts_in chars (stretches_in row.new))))
-        + prefix_len (λ e. is_lt (id_cmp id e.id)) (joined (drop p (parts_in chars (stretches_in row.new))))
-        ≡ place_of (After above) id (elements_in chars (stretches_in row.old)) }
-    ensures elements { (chars : List ℕ) → elements_in chars (stretches_in row.new) ≡ elements_in chars (stretches_in row.old) }
-    ensures stored { (n : ℕ) → are_stored n (stretches_in row.old) ≡ true → are_stored n (stretches_in row.new) ≡ true }
-    ensures outside { All (IsOutside id) (stretches_in row.old) → All (IsOutside id) (stretches_in row.new) }
-    ensures apart { AreApart (stretches_in row.new) }
-    ensures indexed { IsIndexed row.new }
-    ensures room { TakesRoom 1 row.old row.new }
-{
-    let (b, j, k) = spot(row, above).unwrap();
-    if row.blocks[b].stretches[j].stops(k + 1, id) {
-        part(row, b, j, k + 1)
-    } else {
-        (b, j + 1)
     }
 }
 
