@@ -203,7 +203,7 @@ fn give_behind(keys: &mut Keys, b: usize, at: usize)
 {
     split_full(keys, b + 1);
     let from = at.max(keys.leaves[b + 1].keys.len());
-    give(keys, b, from);
+    give_at(&mut keys.leaves, b, from);
 }
 
 /// Splits a leaf into halves if it is full.
@@ -221,20 +221,6 @@ fn split_full(keys: &mut Keys, b: usize)
         return;
     }
     split(keys, b, HALF);
-}
-
-/// Gives the keys of a leaf from one on to the next leaf, which has room for them.
-fn give(keys: &mut Keys, b: usize, at: usize)
-    requires next { b + 1 < vec_len keys.old.leaves }
-    requires least { 128 ≤ at }
-    requires within { at < length (get_or (keys_of keys.old.leaves.items) b []) }
-    requires room { length (get_or (keys_of keys.old.leaves.items) b []) + length (get_or (keys_of keys.old.leaves.items) (b + 1) []) ≤ at + 256 }
-    ensures leaves { let x = get_or (keys_of keys.old.leaves.items) b [] in let y = get_or (keys_of keys.old.leaves.items) (b + 1) [] in
-        keys_of keys.new.leaves.items ≡ slice_set (slice_set (keys_of keys.old.leaves.items) b (take at x)) (b + 1) (drop at x ++ y) }
-    ensures len { vec_len keys.new.leaves ≡ vec_len keys.old.leaves }
-    ensures spares { vec_len keys.new.spares ≡ vec_len keys.old.spares }
-{
-    give_at(&mut keys.leaves, b, at);
 }
 
 /// Gives the keys of leaf b from one on to the next leaf, which has room for them.
