@@ -14,15 +14,10 @@ use Rattle.bg_types.specs.Identifier.{Identifier, id_cmp}
 use Rattle.bg_types.specs.declared.op.Place.{Place}
 use Rattle.bg_types.specs.declared.op.Place.TheVariants.{Root, After}
 use Rattle.rga_tree.specs.declared.element.Element.{Element}
-use Rattle.rga_tree.specs.Row.{operations_of}
-use Rattle.rga_tree.specs.Spot.{seen, seen_all}
+use Rattle.rga_tree.specs.Row.{operations_of, has}
+use Rattle.rga_tree.specs.Spot.{seen, seen_all, joined, offset}
 use Rattle.rga_tree.specs.Tree.{stands_in}
-use Rattle.rga_tree.proofs.Interface.{has_row}
-use Rattle.rga_sequence.specs.Blocks.{joined, offset}
-use Rattle.rga_sequence.specs.BlockRows.{has}
-use Rattle.rga_sequence.proofs.Members.{until, until_none, until-first}
-use Rattle.rga_sequence.proofs.Passing.{is_greater, pre_all}
-use Rattle.rga_sequence.proofs.Joined.{joined-add}
+use Rattle.rga_tree.proofs.Interface.{has_row, until, until_none, until-first, is_greater, pre_all, joined-add}
 use Rattle.rga_runs.specs.declared.stretch.Stretch.{Stretch}
 use Rattle.rga_runs.specs.Typed.{later, typed, parent_at, is_odd, bits_from, unset}
 use Rattle.rga_runs.specs.Changed.{IsGrown, IsLone, IsHidden}

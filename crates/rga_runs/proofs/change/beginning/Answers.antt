@@ -5,14 +5,14 @@ use Rattle.std.specs.Ordering.{is_lt}
 use Rattle.std.specs.List.{prefix_len}
 use Rattle.bg_types.specs.Identifier.{id_cmp}
 use Rattle.rga_tree.specs.Row.{place_of}
-use Rattle.rga_sequence.specs.Blocks.{joined, offset}
+use Rattle.rga_tree.specs.Spot.{joined, offset}
 use Rattle.rga_runs.specs.declared.stretch.Stretch.{Stretch}
 use Rattle.rga_runs.specs.Typed.{later}
 use Rattle.rga_runs.specs.Stretches.{parts_in, elements_in, are_stored, IsOutside, IsPlaced, AreApart}
 use Rattle.rga_runs.specs.Blocks.{row_of, at_spot}
 use Rattle.rga_runs.specs.BlockRows.{items_of}
 use Rattle.rga_runs.specs.Indexed.{stretches_in}
-use Rattle.rga_sequence.proofs.Passing.{is_greater}
+use Rattle.rga_tree.proofs.Interface.{is_greater}
 use Rattle.rga_runs.proofs.BlockLists.{length-items}
 use Rattle.rga_runs.proofs.Chunks.{one_there}
 use Rattle.rga_runs.proofs.Parted.{parted_elements, parted_place, parted_stored, parted_outside, parted_apart}

@@ -2,8 +2,8 @@
 use Rattle.std.proofs.Common.{◌≡◌, ◌∙◌, true, false, get_or, sym, ap, arith}
 use Rattle.std.specs.Prelude.{set}
 use Rattle.std.proofs.lemmas.List.Sums.{sum_by-set}
-use Rattle.rga_sequence.specs.Blocks.{offset}
-use Rattle.rga_sequence.proofs.Spots.{offset_less}
+use Rattle.rga_tree.specs.Spot.{offset}
+use Rattle.rga_tree.proofs.Interface.{offset_less}
 use Rattle.rga_runs.specs.declared.stretch.Stretch.{Stretch}
 use Rattle.rga_runs.specs.Typed.{is_odd, bits_from}
 use Rattle.rga_runs.specs.Stretches.{parts_in, elements_in, are_stored, visible_in, visible_of}

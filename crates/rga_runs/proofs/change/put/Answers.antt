@@ -7,7 +7,7 @@ use Rattle.bg_types.specs.declared.op.Place.{Place}
 use Rattle.bg_types.specs.declared.op.Place.TheVariants.{Root, After}
 use Rattle.rga_tree.specs.declared.element.Element.{Element}
 use Rattle.rga_tree.specs.Row.{place_of}
-use Rattle.rga_sequence.specs.Blocks.{joined}
+use Rattle.rga_tree.specs.Spot.{joined}
 use Rattle.rga_runs.specs.declared.block.Block.{Block}
 use Rattle.rga_runs.specs.Stretches.{parts_in, are_stored, IsOutside, IsPlaced}
 use Rattle.rga_runs.specs.Blocks.{row_of, at_spot, passed}
