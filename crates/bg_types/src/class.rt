@@ -3,9 +3,8 @@
 ghost use Rattle.std.specs.Prelude.{◌≡◌};
 
 /// Bidi_Class (UAX #9, table 4).
-#[derive(Clone, Copy, Debug, Default, PartialEq, Eq, Hash)]
+#[derive(Clone, Copy, Debug, PartialEq, Eq)]
 pub enum Bidi {
-    #[default]
     L,
     R,
     Al,
@@ -66,7 +65,7 @@ impl Bidi {
 }
 
 /// Line_Break (UAX #14, table 1).
-#[derive(Clone, Copy, Debug, Default, PartialEq, Eq, Hash)]
+#[derive(Clone, Copy, Debug, PartialEq, Eq)]
 pub enum Lb {
     Ai,
     Al,
@@ -108,19 +107,17 @@ pub enum Lb {
     Sp,
     Sy,
     Wj,
-    #[default]
     Xx,
     Zw,
     Zwj,
 }
 
 /// East_Asian_Width (UAX #11).
-#[derive(Clone, Copy, Debug, Default, PartialEq, Eq, Hash)]
+#[derive(Clone, Copy, Debug, PartialEq, Eq)]
 pub enum Ea {
     A,
     F,
     H,
-    #[default]
     N,
     Na,
     W,

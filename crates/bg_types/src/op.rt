@@ -6,7 +6,7 @@ use crate::id::Id;
 use std::marker::Model;
 
 /// What an insertion follows in the tree: its parent.
-#[derive(Clone, Copy, Debug, PartialEq, Eq, Hash)]
+#[derive(Clone, Copy, Debug, PartialEq, Eq)]
 pub enum Place {
     Root,
     After(Id),
@@ -28,7 +28,7 @@ impl Place {
 }
 
 /// The parts of an operation.
-#[derive(Clone, Copy, Debug, PartialEq, Eq, Hash)]
+#[derive(Clone, Copy, Debug, PartialEq, Eq)]
 pub enum OpView {
     Insert { id: Id, parent: Place, ch: char },
     Erase { target: Id },
@@ -36,7 +36,7 @@ pub enum OpView {
 
 /// A well-formed operation: an insertion after a parent with a smaller counter, or the deletion
 /// of what an insertion made.
-#[derive(Clone, Copy, Debug, PartialEq, Eq, Hash)]
+#[derive(Clone, Copy, Debug, PartialEq, Eq)]
 pub struct Op {
     parts: OpView,
 }
