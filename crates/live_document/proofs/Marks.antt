@@ -153,18 +153,6 @@ module _ (tables : TableValues) (width : ℕ) (base : Base) where
       ∙ length-append (flat_map f (slice_range texts first end)) (flat_map f (x ∷ []))
       ∙ ap (λ l. length (flat_map f (slice_range texts first end)) + length l) (flat_map-cons f x [] ∙ append-nil (f x))
 
-  -- in front of one of them, its own, and behind it
-  pub rows-whole : (texts : List (List ℕ)) (first number end : ℕ) → first ≤ number → number < end → number < length texts
-      → length (rows_of_texts tables width base (slice_range texts first end))
-      ≡ length (rows_of_texts tables width base (slice_range texts first number))
-      + (length (rows_of_text tables width base (get_or texts number [])) + length (rows_of_texts tables width base (slice_range texts (number + 1) end)))
-  rows-whole texts first number end low high within =
-      let f = rows_of_text tables width base in
-      let parts = ap (λ l. length (flat_map f l)) (slice-parts texts first number end low (omega arith)) ∙ ap length (flat_map-append f (slice_range texts first number) (slice_range texts number end)) in
-      let both = length-append (flat_map f (slice_range texts first number)) (flat_map f (slice_range texts number end)) in
-      let own = rows-up texts (number + 1) number end refl within high in
-      omega arith
-
   pub rows-none : (texts : List (List ℕ)) (n : ℕ) → length (rows_of_texts tables width base (slice_range texts n n)) ≡ 0
   rows-none texts n = ap (λ l. length (flat_map (rows_of_text tables width base) l)) (between_none texts n)
 
@@ -190,6 +178,7 @@ module _ (tables : TableValues) (width : ℕ) (base : Base) where
       ∙ sum_by-append row_weight (flat_map f (slice_range texts first end)) (flat_map f (x ∷ []))
       ∙ ap (λ l. rows_weight (flat_map f (slice_range texts first end)) + rows_weight l) (flat_map-cons f x [] ∙ append-nil (f x))
 
+  -- in front of one of them, its own, and behind it
   pub weight-whole : (texts : List (List ℕ)) (first number end : ℕ) → first ≤ number → number < end → number < length texts
       → rows_weight (rows_of_texts tables width base (slice_range texts first end))
       ≡ rows_weight (rows_of_texts tables width base (slice_range texts first number))

@@ -23,7 +23,7 @@ use Rattle.live_document.specs.LawsBelow.{LawsBelow}
 use Rattle.live_document.proofs.Followed.{text-count}
 use Rattle.live_document.proofs.Printed.{a_row}
 use Rattle.live_document.proofs.Windows.{first-begins}
-use Rattle.live_document.proofs.Round.{own-within, front, seen, rest, parts, seen-size, seen-row, has-seen, seen-rises, seen-begins, position-seen, position-whole}
+use Rattle.live_document.proofs.Round.{own-within, front, seen, rest, parts, seen-size, seen-row, has-seen, seen-rises, seen-begun, position-seen, position-whole}
 
 rows-upto : (rows : List DrawnRow) (from to k : ℕ) (row : DrawnRow) → RowsFollow from rows to → slice_get rows k ≡ Some row → row.first_place ≤ to
 rows-upto [] from to k row follow is = cc
@@ -69,7 +69,7 @@ module _ (below : LawsBelow) (g : DrawnGrid) (drawn : IsDrawn g) where
     shown-rises = seen-rises g.rows whole-rises place (whole-begun place) around around
 
     pub shown-begun : begins_by shown place 0 ≡ true
-    shown-begun = seen-begins g.rows whole-rises place (whole-begun place) around around
+    shown-begun = seen-begun g.rows whole-rises place (whole-begun place) around around
 
     pub shown-position_at : position_at shown place ≡ position_at g.rows place
     shown-position_at =

@@ -75,7 +75,7 @@ module _ (rows : List DrawnRow) (rises : FirstPlacesRise rows) (place : ℕ) (be
     seen-row k there =
         sym (slice_get-second front seen rest k a_row there) ∙ ap (λ l. slice_get l (length front + k)) (sym parts) ∙ ap (λ n. slice_get rows (n + k)) front-size
 
-    seen-begun : begins_by seen place 0 ≡ true
+    pub seen-begun : begins_by seen place 0 ≡ true
     seen-begun =
         let e : from + 0 ≡ from = omega arith in
         ap (λ o. option_map_or (λ (r : DrawnRow). nat_le r.first_place place) o false) (seen-row 0 (omega (arith, seen-size, own-within)) ∙ ap (slice_get rows) e)
@@ -112,13 +112,6 @@ module _ (rows : List DrawnRow) (rises : FirstPlacesRise rows) (place : ℕ) (be
 
     pub seen-rises : FirstPlacesRise seen
     seen-rises = rises-front seen rest (rises-behind front (seen ++ rest) (subst FirstPlacesRise parts rises))
-
-    pub seen-begins : begins_by seen place 0 ≡ true
-    seen-begins = seen-begun
-
-    -- the number of the place's row
-    pub seen-own : row_at seen place ≡ row_at rows place - from
-    seen-own = omega (arith, seen-number)
 
     -- a position in the place's row is one of the window
     pub position-seen : (position : Position) → position.row ≡ place → IsPositionOf rows position → IsPositionOf seen position

@@ -1,6 +1,5 @@
 -- Operations that are taken and told one after the other.
 use Rattle.std.proofs.Common.{◌≡◌, ◌⊎◌, inl, inr, ◌++◌, ◌+◌, ◌-◌, ◌<◌, ◌≤◌, ℕ, Bool, true, false, List, [], ◌∷◌, Some, length, take, drop, get_or, slice_get, refl, sym, ap, ◌∙◌, subst, arith, append_assoc, append-nil}
-use Rattle.std.specs.Prelude.{Result, Ok, Err, OnOk, OnErr}
 use Rattle.std.proofs.Math.Seq.{drop-append_seam}
 use Rattle.std.proofs.lemmas.Bool.{cases_lt}
 use Rattle.std.proofs.lemmas.List.{length-take, take_more, take-append-le}
@@ -13,10 +12,9 @@ use Rattle.rga_tree.specs.TextOf.{text}
 use Rattle.desk_replica.specs.Desk.{Desk}
 use Rattle.desk_replica.specs.Merging.{with_operations}
 use Rattle.desk_replica.specs.Reply.{IsRefusal}
-use Rattle.desk_replica.specs.Telling.{IsTold, IsUntaken, changes_of, is_shown, waiting_count}
+use Rattle.desk_replica.specs.Telling.{IsTold, changes_of, is_shown}
 use Rattle.desk_replica.specs.declared.answer.TakeFault.{TakeFault}
-use Rattle.desk_replica.specs.declared.answer.TakeFault.TheVariants.{IdentifierReused, Full, Memory}
-use Rattle.desk_replica.specs.Taking.{AreAccepted, AreTaken, AreTold, IsListPaid}
+use Rattle.desk_replica.specs.Taking.{AreAccepted, AreTaken, AreTold}
 use Rattle.live_document.proofs.Followed.{told-behind}
 
 with-append_one : (s : OperationSet) (ops : List OpView) (op : OpView) → with_operations s (ops ++ op ∷ []) ≡ with_operation (with_operations s ops) op
@@ -65,31 +63,6 @@ told_next s u t ops n op old mid new within is taken more before told =
     let step : IsTold u (with_operation u op) mid new = subst (λ (v : OperationSet). IsTold u v mid new) more told in
     let next = subst (λ (v : OperationSet). IsTold v (with_operation v op) mid new) taken step in
     subst (λ (list : List OpView). AreTold s list old new) (sym (first_and ops n op within is)) (told_more s (take n ops) op old mid new before next)
-
--- ---- what is paid for
-
--- one operation less is left to be paid for, whether it was taken
-pub paid_next : (old new : Desk) (n told more capacity room : ℕ) → IsListPaid old (n + 1) told capacity → size old.set + old.spare ≤ size new.set + new.spare → size new.set ≤ size old.set + 1
-    → more + waiting_count new.set ≤ told + waiting_count old.set + 1 → capacity ≤ room → IsListPaid new n more room
-paid_next old new n told more capacity room paid spare one few grows = record { spare = omega (arith, paid.spare, spare, one); room = omega (arith, paid.room, few, grows) }
-
-pub paid_still : (old new : Desk) (n told more capacity room : ℕ) → IsListPaid old (n + 1) told capacity → new ≡ old → more ≡ told → capacity ≤ room → IsListPaid new n more room
-paid_still old new n told more capacity room paid same none grows = record {
-  spare = omega (arith, paid.spare, ap (λ (d : Desk). d.spare) same);
-  room = omega (arith, paid.room, ap (λ (d : Desk). waiting_count d.set) same, none, grows);
-}
-
--- what lacked no memory was refused
-pub refused_for_good : (s : OperationSet) (op : OpView) (fault : TakeFault) → IsUntaken s op fault → ¬ (fault ≡ Memory) → IsRefusal s op fault
-refused_for_good s op IdentifierReused h some = h
-refused_for_good s op Full h some = h
-refused_for_good s op Memory h some = absurd (some refl)
-
--- and is refused again
-pub refused_again : {A E : Type 0} (answer : Result A E) (s : OperationSet) (op : OpView) (fault : TakeFault) (P : Type 0) → IsRefusal s op fault
-    → OnOk answer ((f : TakeFault) → ¬ (IsRefusal s op f)) → OnErr answer P → P
-refused_again (Ok taken) s op fault P refused accepted err = absurd (accepted fault refused)
-refused_again (Err other) s op fault P refused accepted err = err
 
 -- older changes stand in front of what is told
 pub reaches_past : (old new : List Change) → take (length old) new ≡ old → length old ≤ length new
