@@ -1,6 +1,6 @@
 -- What is kept goes on being kept over changes, so what was shown needn't be laid out again.
 use Rattle.std.proofs.Common.{◌≡◌, ℕ, zero, suc, ◌+◌, ◌-◌, ◌<◌, ◌≤◌, ◌⊎◌, inl, inr, Bool, true, false, cond, not, Option, Some, None, List, [], ◌∷◌, ◌++◌, length, map, take, drop, replicate, count_by, slice_range, refl, sym, ap, ap₂, subst, ◌∙◌, arith}
-use Rattle.std.proofs.lemmas.List.{map-append, take-map, drop-map, length-map, length-drop}
+use Rattle.std.proofs.lemmas.List.{map-append, take-map, drop-map, length-map, length-drop, length-take-le}
 use Rattle.std.proofs.lemmas.List.Edits.{split_between, length-between, get_or-between}
 use Rattle.std.specs.Prelude.{Result, Ok, Err, is_err, is_some, option_map, encode_utf8_all, IfOk}
 use Rattle.bg_types.specs.OperationSet.{OperationSet}
@@ -88,17 +88,12 @@ each-marked : (ys : List Bool) → ((k : ℕ) → k < length ys → is_kept ys k
 each-marked [] h = tt
 each-marked (b ∷ ys) h = (λ e. h 0 (omega arith), each-marked ys (λ k below. h (suc k) (omega arith)))
 
-length-front : (xs : List Bool) (n : ℕ) → n ≤ length xs → length (take n xs) ≡ n
-length-front xs zero le = refl
-length-front [] (suc n) le = absurd (omega arith)
-length-front (x ∷ xs) (suc n) le = let h = length-front xs n (omega arith) in omega arith
-
 -- a stretch of which all rows are kept
 stretch-marked : (ms : List Bool) (from to : ℕ) → from ≤ to → to ≤ length ms → ((k : ℕ) → from ≤ k → k < to → is_kept ms k ≡ true)
     → AreMarked (stretch_marks from to (length ms)) ms
 stretch-marked ms from to order within inside =
     let n = length-between ms from to within in
-    let a = length-front ms from (omega arith) in
+    let a = length-take-le from ms (omega arith) in
     let c = length-drop to ms in
     subst (AreMarked (stretch_marks from to (length ms))) (sym (split_between ms from to order))
     (marked-both (replicate from false) (take from ms) (replicate (to - from) true ++ replicate (length ms - to) false) (slice_range ms from to ++ drop to ms)
@@ -194,6 +189,11 @@ in_turn-counted old new (s ∷ steps) h =
 
 -- ---- a document
 
+pub none-kept : (n k : ℕ) → is_kept (replicate n false) k ≡ false
+none-kept zero k = refl
+none-kept (suc n) zero = refl
+none-kept (suc n) (suc k) = none-kept n k
+
 -- what is behind keeps nothing
 pub bare-behind : (tables : TableValues) (set : OperationSet) (kept : KeptText) → IsBare (paragraphs_of true tables set kept)
 bare-behind tables set kept = ap (map anew) (sym (texts-anew (paragraph_points tables (text set))))
@@ -201,12 +201,7 @@ bare-behind tables set kept = ap (map anew) (sym (texts-anew (paragraph_points t
 pub unkept-behind : (behind : Bool) (tables : TableValues) (set : OperationSet) (kept : KeptText) → (behind ≡ false → ⊥) → (k : ℕ) → is_kept (marks (paragraphs_of behind tables set kept)) k ≡ false
 unkept-behind false tables set kept behind k = absurd (behind refl)
 unkept-behind true tables set kept behind k =
-    ap (λ ms. is_kept ms k) (marks-anew (paragraph_points tables (text set))) ∙ none-at (length (paragraph_points tables (text set))) k
-  where
-    none-at : (n k : ℕ) → is_kept (replicate n false) k ≡ false
-    none-at zero k = refl
-    none-at (suc n) zero = refl
-    none-at (suc n) (suc k) = none-at n k
+    ap (λ ms. is_kept ms k) (marks-anew (paragraph_points tables (text set))) ∙ none-kept (length (paragraph_points tables (text set))) k
 
 module _ (tables : TableValues) (before after : OperationSet) (kept now : KeptText) where
   -- an edit of the paragraphs is one of the document, or they are behind

@@ -1,5 +1,5 @@
 -- Rows that are dropped, and how many are kept then.
-use Rattle.std.proofs.Common.{◌≡◌, ℕ, zero, suc, ◌+◌, ◌-◌, ◌<◌, ◌≤◌, ◌⊎◌, inl, inr, Bool, true, false, None, Some, Option, List, [], ◌∷◌, ◌++◌, length, get_or, map, take, drop, replicate, slice_range, flat_map, refl, sym, ap, ap₂, subst, ◌∙◌, arith}
+use Rattle.std.proofs.Common.{◌≡◌, ℕ, zero, suc, ◌+◌, ◌-◌, ◌<◌, ◌≤◌, ◌⊎◌, inl, inr, Bool, true, false, None, Some, Option, List, [], ◌∷◌, ◌++◌, length, get_or, map, take, drop, slice_range, flat_map, refl, sym, ap, ap₂, subst, ◌∙◌, arith}
 use Rattle.std.proofs.lemmas.Bool.{cases_lt}
 use Rattle.std.proofs.lemmas.List.{take-map, drop-map, length-map, get_or-append_right, get_or_append_left, drop-drop, length-drop, length-take-le}
 use Rattle.std.proofs.lemmas.List.Concat.{flat_map-cons}
@@ -26,7 +26,8 @@ use Rattle.live_document.specs.Documents.{counted, paragraphs_of}
 use Rattle.live_document.specs.Showing.{rows_from, window_in, IsAtHand}
 use Rattle.live_document.specs.declared.shown.Shown.{Shown}
 use Rattle.live_document.proofs.Beside.{kept-same, laid-anew, own_held, held-cons}
-use Rattle.live_document.proofs.Cost.{flags-anew}
+use Rattle.live_document.proofs.Cost.{flags-anew, none-kept}
+use Rattle.live_document.proofs.Placing.{slice-map}
 
 flags-both : (xs ys : KeptText) → flags (xs ++ ys) ≡ flags xs ++ flags ys
 flags-both [] ys = refl
@@ -106,11 +107,6 @@ module _ (tables : TableValues) (width : ℕ) (base : Base) where
       let later = held-most kept (All-tail (IsLaid tables width base) p kept all) in
       omega arith
 
-length-front : (xs : KeptText) (n : ℕ) → n ≤ length xs → length (take n xs) ≡ n
-length-front xs zero le = refl
-length-front [] (suc n) le = absurd (omega arith)
-length-front (x ∷ xs) (suc n) le = let h = length-front xs n (omega arith) in omega arith
-
 -- ---- what is kept of a stretch alone
 
 paragraphs-both : (xs ys : KeptText) → paragraphs_in (xs ++ ys) ≡ paragraphs_in xs ++ paragraphs_in ys
@@ -132,13 +128,8 @@ kept-bare : (kept : KeptText) → kept_in (bare kept) ≡ forgotten (kept_in kep
 kept-bare [] = refl
 kept-bare (p ∷ kept) = ap (λ later. None ∷ later) (kept-bare kept)
 
-none-marked : (n k : ℕ) → is_kept (replicate n false) k ≡ false
-none-marked zero k = refl
-none-marked (suc n) zero = refl
-none-marked (suc n) (suc k) = none-marked n k
-
 none-bare : (kept : KeptText) (k : ℕ) → is_kept (flags (bare kept)) k ≡ false
-none-bare kept k = ap (λ ms. is_kept ms k) (flags-anew (paragraphs_in kept)) ∙ none-marked (length (paragraphs_in kept)) k
+none-bare kept k = ap (λ ms. is_kept ms k) (flags-anew (paragraphs_in kept)) ∙ none-kept (length (paragraphs_in kept)) k
 
 module _ (old new : KeptText) (from to : ℕ) (order : from ≤ to) (within : to ≤ length old)
     (paragraphs : paragraphs_in new ≡ paragraphs_in old) (kept : kept_in new ≡ kept_but from to (kept_in old)) where
@@ -162,7 +153,7 @@ module _ (old new : KeptText) (from to : ℕ) (order : from ≤ to) (within : to
       same_kept =
           let f : KeptParagraph Rows → Option Rows = λ p. p.kept in
           ap₂ (λ x y. x ++ y) (ap forgotten (take-map f from old) ∙ sym (kept-bare (take from old)))
-          (ap₂ (λ x y. x ++ y) (ap (take (to - from)) (drop-map f from old) ∙ take-map f (to - from) (drop from old))
+          (ap₂ (λ x y. x ++ y) (slice-map f old from to)
           (ap forgotten (drop-map f to old) ∙ sym (kept-bare (drop to old)))
           ∙ sym (kept-both (slice_range old from to) (bare (drop to old))))
           ∙ sym (kept-both (bare (take from old)) (slice_range old from to ++ bare (drop to old)))
@@ -187,12 +178,11 @@ module _ (old new : KeptText) (from to : ℕ) (order : from ≤ to) (within : to
   front-count : length (flags (bare (take from old))) ≡ from
   front-count =
       length-map (bare (take from old)) (λ (p : KeptParagraph Rows). is_some p.kept) ∙ length-map (paragraphs_in (take from old)) anew
-      ∙ length-map (take from old) (λ (p : KeptParagraph Rows). p.points) ∙ length-front old from (omega arith)
+      ∙ length-map (take from old) (λ (p : KeptParagraph Rows). p.points) ∙ length-take-le from old (omega arith)
 
   middle : flags (slice_range old from to) ≡ slice_range (flags old) from to
   middle =
-      let flag : KeptParagraph Rows → Bool = λ p. is_some p.kept in
-      sym (ap (take (to - from)) (drop-map flag from old) ∙ take-map flag (to - from) (drop from old))
+      sym (slice-map (λ (p : KeptParagraph Rows). is_some p.kept) old from to)
 
   middle-count : length (flags (slice_range old from to)) ≡ to - from
   middle-count = let size = length-map old (λ (p : KeptParagraph Rows). is_some p.kept) in ap length middle ∙ length-between (flags old) from to (omega arith)
@@ -260,7 +250,7 @@ outside-held kept from to =
 
 pub slice-held : (kept : KeptText) (from to : ℕ) → weight_held (slice_range kept from to) ≡ weight_kept (slice_range (map counted kept) from to)
 slice-held kept from to =
-    sym (kept-held (slice_range kept from to)) ∙ ap weight_kept (sym (ap (take (to - from)) (drop-map counted from kept) ∙ take-map counted (to - from) (drop from kept)))
+    sym (kept-held (slice_range kept from to)) ∙ ap weight_kept (sym (slice-map counted kept from to))
 
 -- ---- the same of what is seen
 
@@ -314,11 +304,6 @@ pub kept-edited : (old new : List (KeptParagraph ℕ)) (steps : List Step) (from
 kept-edited old new steps from to most order touched held =
     let less = sum-in_turn own_kept (λ points. refl) old new steps touched in
     elim held [ inl few ↦ omega (arith, less, few) | inr inside ↦ (let own = kept-inside old from to order inside in omega (arith, less, own)) ]
-
--- what holds after any fault
-pub on-err : {A E P : Type 0} (r : Result A E) → P → OnErr r P
-on-err (Ok v) h = tt
-on-err (Err e) h = h
 
 -- a window that is at hand has the rows that it tells
 pub shown-count : (kept : KeptText) (s : Shown) → IsAtHand kept s → length (window_in kept s).rows ≡ s.count

@@ -1,7 +1,7 @@
 -- What was kept stays, where not too many rows are.
-use Rattle.std.proofs.Common.{◌≡◌, ℕ, ◌+◌, ◌-◌, ◌<◌, ◌≤◌, inl, inr, Bool, true, false, Option, Some, None, List, [], ◌∷◌, ◌++◌, length, get_or, map, take, drop, slice_range, refl, sym, ap, subst, ◌∙◌, arith}
+use Rattle.std.proofs.Common.{◌≡◌, ℕ, ◌+◌, ◌-◌, ◌<◌, ◌≤◌, inl, inr, Bool, true, false, Option, Some, None, List, [], ◌∷◌, ◌++◌, length, get_or, take, drop, slice_range, refl, sym, ap, subst, ◌∙◌, arith}
 use Rattle.std.proofs.lemmas.Bool.{cases_lt}
-use Rattle.std.proofs.lemmas.List.{take-map, drop-map, length-map, length-drop, take_all}
+use Rattle.std.proofs.lemmas.List.{length-map, length-drop, take_all}
 use Rattle.std.proofs.lemmas.List.Edits.{split_between}
 use Rattle.std.proofs.lemmas.List.Elements.{All-take, All-drop, All-head, All-tail}
 use Rattle.std.proofs.lemmas.List.Sums.{sum_by-append}
@@ -14,6 +14,7 @@ use Rattle.text_buffer.specs.Buffers.{KeptParagraph, paragraphs_in}
 use Rattle.live_document.specs.Keeping.{Rows, KeptText, rows_of_text, rows_weight, weight_held, held_outside, IsLaid, IsMarked, flags, is_kept}
 use Rattle.live_document.proofs.Beside.{own_held, held-cons}
 use Rattle.live_document.proofs.Marks.{slice-agrees}
+use Rattle.live_document.proofs.Placing.{slice-map}
 
 abbrev points_of : KeptParagraph Rows → List ℕ
 points_of p = p.points
@@ -61,13 +62,10 @@ module _ (tables : TableValues) (width : ℕ) (base : Base) where
       let e = ap length points in
       let size : length (flags new) ≡ length (flags old) = omega (arith, n, m, a, b, e) in
       held-alike (slice_range old from to) (slice_range new from to)
-      (sym (part points_of new) ∙ ap (λ ts. slice_range ts from to) points ∙ part points_of old)
-      (sym (part flag_of new) ∙ slice-agrees (flags new) (flags old) from to size (omega (arith, within, n)) same ∙ part flag_of old)
+      (sym (slice-map points_of new from to) ∙ ap (λ ts. slice_range ts from to) points ∙ slice-map points_of old from to)
+      (sym (slice-map flag_of new from to) ∙ slice-agrees (flags new) (flags old) from to size (omega (arith, within, n)) same ∙ slice-map flag_of old from to)
       (All-take (IsLaid tables width base) (to - from) (drop from old) (All-drop (IsLaid tables width base) from old was))
       (All-take (IsLaid tables width base) (to - from) (drop from new) (All-drop (IsLaid tables width base) from new is))
-    where
-      part : {A : Type 0} (f : KeptParagraph Rows → A) (kept : KeptText) → slice_range (map f kept) from to ≡ map f (slice_range kept from to)
-      part f kept = ap (take (to - from)) (drop-map f from kept) ∙ take-map f (to - from) (drop from kept)
 
 -- those of the front, and those from a number on, are stretches
 front-is : (kept : KeptText) (n : ℕ) → slice_range kept 0 n ≡ take n kept

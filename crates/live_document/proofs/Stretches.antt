@@ -1,6 +1,6 @@
 -- Rows that are kept of a stretch of paragraphs are the rows of the text's grid.
 use Rattle.std.proofs.Common.{◌≡◌, ℕ, zero, suc, ◌+◌, ◌-◌, ◌<◌, ◌≤◌, true, None, List, [], ◌∷◌, ◌++◌, length, map, take, drop, get_or, slice_range, flat_map, refl, sym, ap, ap₂, subst, ◌∙◌, arith, append_assoc, append-nil, length-append}
-use Rattle.std.proofs.lemmas.List.{take-map, drop-map, length-map, drop_more, take_more}
+use Rattle.std.proofs.lemmas.List.{take-map, drop-map, length-map, length-drop, drop_more, take_more}
 use Rattle.std.proofs.lemmas.List.Elements.{All-head, All-tail}
 use Rattle.std.specs.List.{All, concat}
 use Rattle.std.specs.Prelude.{is_some}
@@ -128,14 +128,9 @@ module _ (tables : TableValues) (width : ℕ) (base : Base) where
   stretch-from kept qs from to e u follow v all order within there =
       let front : text_in (take from kept) ≡ concat (take from (points_of qs)) = ap concat (front-texts kept from ∙ ap (take from) e) in
       let behind = texts-behind kept from ∙ ap (drop from) e ∙ drop-map (λ (q : Paragraph). code_points q.text) from qs in
-      let size = drop-size kept from in
+      let size = length-drop from kept in
       let bytes : bytes_in (text_in (take from kept)) ≡ bytes_in (concat (take from (points_of qs))) = ap bytes_in front in
       let places : length (text_in (take from kept)) ≡ length (concat (take from (points_of qs))) = ap length front in
       let s = stretch (bytes_in (concat (take from (points_of qs)))) (length (concat (take from (points_of qs)))) (to - from) (drop from kept) (drop from qs) behind v follow all (omega arith)
       (λ k below. flags-behind kept from k ∙ there (from + k) (omega arith) (omega arith)) in
       (s.0, rows_behind-sums _ _ _ _ (drop from kept) bytes places ∙ s.1)
-    where
-      drop-size : (ps : KeptText) (n : ℕ) → length (drop n ps) + n ≡ length ps + (n - length ps)
-      drop-size ps zero = omega arith
-      drop-size [] (suc n) = omega arith
-      drop-size (q ∷ ps) (suc n) = let h = drop-size ps n in omega arith

@@ -3,7 +3,7 @@ use Rattle.std.proofs.Common.{◌≡◌, ◌+◌, ◌-◌, ◌<◌, ℕ, [], con
 use Rattle.std.proofs.lemmas.Bool.{false_from_ne_true}
 use Rattle.text_buffer.specs.Buffers.{paragraphs_in}
 use Rattle.live_document.specs.Keeping.{flags, is_kept, rows_of_text, rows_of_texts, rows_weight}
-use Rattle.live_document.proofs.Forgotten.{on-err}
+use Rattle.cell_grid.proofs.Interface.{on_err}
 use Rattle.live_document.proofs.Marks.{marked-none, marked-down, count-down, count-none, rows-down, rows-none, weight-down, weight-none, cond-most}
 use Rattle.live_document.proofs.Stretches.{count-texts, count-flags}
 use Rattle.live_document.proofs.keeping.reach_down.Goals as goal
@@ -71,4 +71,4 @@ returns-in_err-out-clause-refused c =
     let now = c.loop-end.buffer in
     let end = c.loop-end.end in
     let none = sym (h.marked.outside end (inr (omega arith))) ∙ false_from_ne_true (is_kept (flags now) end) (λ there. (let e = c.in_err-out.ensures.enough there in cc)) in
-    on-err c.from_residual.result (end, h.order, omega (arith, h.count_is), none, omega (arith, h.rows_are))
+    on_err c.from_residual.result (end, h.order, omega (arith, h.count_is), none, omega (arith, h.rows_are))

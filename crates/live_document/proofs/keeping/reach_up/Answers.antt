@@ -3,7 +3,7 @@ use Rattle.std.proofs.Common.{◌≡◌, ◌+◌, ◌-◌, ◌<◌, ℕ, [], con
 use Rattle.std.proofs.lemmas.Bool.{false_from_ne_true}
 use Rattle.text_buffer.specs.Buffers.{paragraphs_in}
 use Rattle.live_document.specs.Keeping.{flags, is_kept, rows_of_text, rows_of_texts, rows_weight}
-use Rattle.live_document.proofs.Forgotten.{on-err}
+use Rattle.cell_grid.proofs.Interface.{on_err}
 use Rattle.live_document.proofs.Marks.{marked-none, marked-up, count-up, count-none, rows-up, rows-none, weight-up, weight-none, cond-most}
 use Rattle.live_document.proofs.Stretches.{count-texts, count-flags}
 use Rattle.live_document.proofs.keeping.reach_up.Goals as goal
@@ -72,4 +72,4 @@ returns-in_err-out-clause-refused c =
     let next : c.loop-first.first ≡ first + 1 = omega arith in
     let rows = ap (λ n. length (rows_of_texts c.args.tables.now c.args.width c.args.base (slice_range (paragraphs_in old) n c.args.number))) next in
     let none = sym (h.marked.outside first (inl (omega arith))) ∙ false_from_ne_true (is_kept (flags now) first) (λ there. (let e = c.in_err-out.ensures.enough there in cc)) in
-    on-err c.from_residual.result (first, omega (arith, h.order), none, omega (arith, rows, h.rows_are))
+    on_err c.from_residual.result (first, omega (arith, h.order), none, omega (arith, rows, h.rows_are))

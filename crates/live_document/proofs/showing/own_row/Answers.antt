@@ -9,7 +9,7 @@ use Rattle.cell_grid.specs.Windows.{FirstPlacesRise, begins_by, row_at}
 use Rattle.live_document.specs.Keeping.{KeptText, flags, is_kept, rows_of_text, rows_weight}
 use Rattle.live_document.specs.Showing.{IsRowOf}
 use Rattle.live_document.proofs.Beside.{rows_at-laid}
-use Rattle.live_document.proofs.Forgotten.{on-err}
+use Rattle.cell_grid.proofs.Interface.{on_err}
 use Rattle.live_document.proofs.Marks.{set-mark}
 use Rattle.live_document.proofs.Stretches.{count-texts, count-flags}
 use Rattle.live_document.proofs.Windows.{own-text, own-first, own-rises, own-begun}
@@ -118,5 +118,5 @@ returns-clause-weight c =
 pub returns-in_err-out-clause-refused : goal.returns-in_err-out-clause-refused
 returns-in_err-out-clause-refused c =
     let n = c.paragraph_of-number.result in
-    on-err c.from_residual.result (subst (λ (was : KeptText). (number : ℕ) × IsParagraphOf (paragraphs_in was) c.args.place number × (is_kept (flags was) number ≡ false)) c.go_to.ensures
+    on_err c.from_residual.result (subst (λ (was : KeptText). (number : ℕ) × IsParagraphOf (paragraphs_in was) c.args.place number × (is_kept (flags was) number ≡ false)) c.go_to.ensures
     (n, c.paragraph_of-number.ensures, false_from_ne_true (is_kept (flags c.go_to.new.self) n) (λ there. (let e = c.in_err-out.ensures.enough there in cc))))

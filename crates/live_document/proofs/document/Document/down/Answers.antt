@@ -9,7 +9,7 @@ use Rattle.caret.specs.Moves.{down_of}
 use Rattle.caret.specs.Positions.{caret_of, position_of, IsPositionOf}
 use Rattle.live_document.specs.Documents.{whole_grid}
 use Rattle.live_document.proofs.Cost.{laid-from, counted-from}
-use Rattle.live_document.proofs.Forgotten.{on-err}
+use Rattle.cell_grid.proofs.Interface.{on_err}
 use Rattle.live_document.proofs.Positions.{seen-alike, position-place, shown-rises, shown-caret, near-stands, near-moves, near-moved}
 use Rattle.live_document.proofs.document.Document.down.Goals as goal
 
@@ -62,4 +62,4 @@ returns-clause-laid c = laid-from c.refresh.new.self c.args.self.now c.rows_roun
 
 pub returns-in_err-rows-clause-uncounted : goal.returns-in_err-rows-clause-uncounted
 returns-in_err-rows-clause-uncounted c =
-    on-err c.from_residual-in_err-rows.result (counted-from c.refresh.new.self c.args.self.now c.rows_round.new.self c.args.position.row 1 1 c.refresh.ensures.paragraphs c.refresh.ensures.laid c.in_err-rows.ensures.uncounted)
+    on_err c.from_residual-in_err-rows.result (counted-from c.refresh.new.self c.args.self.now c.rows_round.new.self c.args.position.row 1 1 c.refresh.ensures.paragraphs c.refresh.ensures.laid c.in_err-rows.ensures.uncounted)

@@ -8,7 +8,7 @@ use Rattle.cell_grid.specs.Windows.{FirstPlacesRise, begins_by}
 use Rattle.caret.specs.Positions.{IsPositionOf}
 use Rattle.live_document.specs.Documents.{LiveDocument, whole_grid}
 use Rattle.live_document.proofs.Cost.{laid-from, counted-from}
-use Rattle.live_document.proofs.Forgotten.{on-err}
+use Rattle.cell_grid.proofs.Interface.{on_err}
 use Rattle.live_document.proofs.Round.{position-seen}
 use Rattle.live_document.proofs.Positions.{seen-alike, position-place, whole-rises, whole-begun, shown-rises, shown-begun, shown-stands}
 use Rattle.live_document.proofs.document.Document.holds.Goals as goal
@@ -58,4 +58,4 @@ returns-clause-laid c = λ within. laid-from c.refresh.new.self c.args.self.now 
 
 pub returns-in_err-rows-clause-uncounted : goal.returns-in_err-rows-clause-uncounted
 returns-in_err-rows-clause-uncounted c =
-    on-err c.from_residual-in_err-rows.result (counted-from c.refresh.new.self c.args.self.now c.rows_round.new.self c.args.position.row 0 0 c.refresh.ensures.paragraphs c.refresh.ensures.laid c.in_err-rows.ensures.uncounted)
+    on_err c.from_residual-in_err-rows.result (counted-from c.refresh.new.self c.args.self.now c.rows_round.new.self c.args.position.row 0 0 c.refresh.ensures.paragraphs c.refresh.ensures.laid c.in_err-rows.ensures.uncounted)

@@ -9,7 +9,7 @@ use Rattle.caret.specs.Places.{caret_among}
 use Rattle.caret.specs.Positions.{position_of, IsPositionOf}
 use Rattle.live_document.specs.Documents.{whole_grid}
 use Rattle.live_document.proofs.Cost.{laid-from, counted-from}
-use Rattle.live_document.proofs.Forgotten.{on-err}
+use Rattle.cell_grid.proofs.Interface.{on_err}
 use Rattle.live_document.proofs.Positions.{seen-alike, shown-rises, shown-begun, shown-position_at, shown-caret}
 use Rattle.live_document.proofs.document.Document.position_at.Goals as goal
 
@@ -55,4 +55,4 @@ returns-clause-laid c = laid-from c.refresh.new.self c.args.self.now c.rows_roun
 
 pub returns-in_err-rows-clause-uncounted : goal.returns-in_err-rows-clause-uncounted
 returns-in_err-rows-clause-uncounted c =
-    on-err c.from_residual-in_err-rows.result (counted-from c.refresh.new.self c.args.self.now c.rows_round.new.self c.args.place 0 0 c.refresh.ensures.paragraphs c.refresh.ensures.laid c.in_err-rows.ensures.uncounted)
+    on_err c.from_residual-in_err-rows.result (counted-from c.refresh.new.self c.args.self.now c.rows_round.new.self c.args.place 0 0 c.refresh.ensures.paragraphs c.refresh.ensures.laid c.in_err-rows.ensures.uncounted)

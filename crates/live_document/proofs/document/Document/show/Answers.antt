@@ -9,8 +9,9 @@ use Rattle.live_document.specs.Cost.{allowed, top_of, bottom_of, marks, weight_o
 use Rattle.live_document.specs.Documents.{LiveDocument, counted}
 use Rattle.live_document.specs.Keeping.{is_kept, IsKeptAt}
 use Rattle.live_document.specs.Showing.{window_in}
+use Rattle.cell_grid.proofs.Interface.{on_err}
 use Rattle.live_document.proofs.Followed.{live-bare}
-use Rattle.live_document.proofs.Forgotten.{kept-held, none-behind, on-err, outside-held, shown-count, slice-held}
+use Rattle.live_document.proofs.Forgotten.{kept-held, none-behind, outside-held, shown-count, slice-held}
 use Rattle.live_document.proofs.Cost.{live-caught, unkept-behind, marks-counted, row-alike, texts-counted, texts-live}
 use Rattle.live_document.proofs.document.Document.show.Goals as goal
 
@@ -70,7 +71,7 @@ invariant_of-self-in-Err c =
 pub returns-in_err-catch_up-clause-forgotten : goal.returns-in_err-catch_up-clause-forgotten
 returns-in_err-catch_up-clause-forgotten c =
     let i = c.self.inside in
-    on-err c.from_residual.result (none-behind i.behind i.tables.value i.desk.set c.catch_up.new.buffer (λ is. (let e = c.in_err-catch_up.ensures.enough is in cc)))
+    on_err c.from_residual.result (none-behind i.behind i.tables.value i.desk.set c.catch_up.new.buffer (λ is. (let e = c.in_err-catch_up.ensures.enough is in cc)))
 
 pub returns-in_err-catch_up-clause-enough : goal.returns-in_err-catch_up-clause-enough
 returns-in_err-catch_up-clause-enough c = λ h.
