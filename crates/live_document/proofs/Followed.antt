@@ -22,8 +22,9 @@ use Rattle.text_buffer.proofs.Interface.{changed-all}
 use Rattle.live_document.specs.Keeping.{KeptText, weight_held, IsLaid, IsKeptAt, StaysKept}
 use Rattle.live_document.specs.declared.shown.Shown.{Shown}
 use Rattle.live_document.specs.Documents.{IsWindowOf, IsLive}
-use Rattle.live_document.specs.Showing.{window_in, no_window, IsAtHand}
+use Rattle.live_document.specs.Showing.{window_in, no_window, IsAtHand, IsReadable}
 use Rattle.live_document.proofs.Beside.{laid-anew, laid-replaced}
+use Rattle.live_document.proofs.Cursors.{split-some}
 
 -- of a text that is split anew nothing is kept
 pub kept-anew : (tables : TableValues) (width : ℕ) (base : Base) (kept : KeptText) → IsSplit tables (paragraphs_in kept) → kept ≡ map anew (paragraphs_in kept)
@@ -86,11 +87,18 @@ pub text-count : (s : OperationSet) → length (text s) ≡ length (visible s)
 text-count s = length-map (visible s) (λ (e : Identifier × Node). e.1.ch)
 
 -- nothing is shown
-pub nothing-at_hand : (kept : KeptText) (s : Shown) → s ≡ record { first = 0; skip = 0; count = 0; number = 0 } → IsAtHand kept s
-nothing-at_hand kept s is = subst (IsAtHand kept) (sym is) (omega arith)
+pub nothing-at_hand : (tables : TableValues) (kept : KeptText) (s : Shown) → IsSplit tables (paragraphs_in kept) → s ≡ record { first = 0; skip = 0; count = 0; number = 0 } → IsAtHand kept s
+nothing-at_hand tables kept s split is =
+    let some = split-some tables kept split in
+    subst (IsAtHand kept) (sym is) (record { there = some; enough = omega arith; few = omega arith })
 
 pub nothing-window : (kept : KeptText) (s : Shown) → s ≡ record { first = 0; skip = 0; count = 0; number = 0 } → window_in kept s ≡ no_window
 nothing-window kept s is = ap (window_in kept) is
+
+-- what is shown may be read
+pub live-readable : (desk : Desk) (tables : TableValues) (width : ℕ) (base : Base) (behind : Bool) (kept : KeptText) (s : Shown) (held : ℕ) → IsLive desk tables width base behind kept s held
+    → IsReadable kept s
+live-readable desk tables width base behind kept s held live = record { tables = tables; width = width; base = base; kept_at = live.kept_at; at_hand = live.at_hand }
 
 -- a desk's text has changed, and the paragraphs with it or they are behind
 pub live-followed : (old new : Desk) (tables : TableValues) (width : ℕ) (base : Base) (behind later : Bool) (kept now : KeptText) (s nothing : Shown) (held from to : ℕ) (points : List ℕ)
@@ -101,7 +109,7 @@ live-followed old new tables width base behind later kept now s nothing held fro
   kept_at = stays width base live.kept_at;
   text_is = λ h. same h ∙ ap (λ t. replaced t from to points) (live.text_is (before h)) ∙ sym changed;
   unshown = λ h. nothing-window now nothing none;
-  at_hand = nothing-at_hand now nothing none;
+  at_hand = nothing-at_hand tables now nothing (stays width base live.kept_at).split none;
   of_now = inl (nothing-window now nothing none);
   held_is = omega (arith, less, live.held_is);
   held_few = live.held_few;
@@ -145,7 +153,7 @@ live-told old new tables width base behind later kept now s nothing held changes
   kept_at = stays width base live.kept_at;
   text_is = λ h. same h ∙ ap (λ t. all_changed t changes) (live.text_is (before h)) ∙ sym (changed-all changes (text old.set) (text new.set) edit).1;
   unshown = λ h. nothing-window now nothing none;
-  at_hand = nothing-at_hand now nothing none;
+  at_hand = nothing-at_hand tables now nothing (stays width base live.kept_at).split none;
   of_now = inl (nothing-window now nothing none);
   held_is = omega (arith, less, live.held_is);
   held_few = live.held_few;
@@ -159,7 +167,7 @@ live-behind desk tables width base kept nothing held at none less few = record {
   kept_at = at;
   text_is = λ h. cc;
   unshown = λ h. nothing-window kept nothing none;
-  at_hand = nothing-at_hand kept nothing none;
+  at_hand = nothing-at_hand tables kept nothing at.split none;
   of_now = inl (nothing-window kept nothing none);
   held_is = less;
   held_few = few;
@@ -186,7 +194,7 @@ live-turned desk tables width base behind kept now s nothing held wider turned l
   kept_at = record { at_least = least; at_most = most; split = subst (IsSplit tables) (sym same) live.kept_at.split; laid = laid };
   text_is = λ h. ap concat same ∙ live.text_is h;
   unshown = λ h. nothing-window now nothing none;
-  at_hand = nothing-at_hand now nothing none;
+  at_hand = nothing-at_hand tables now nothing (subst (IsSplit tables) (sym same) live.kept_at.split) none;
   of_now = inl (nothing-window now nothing none);
   held_is = omega (arith, empty);
   held_few = omega arith;
@@ -200,7 +208,7 @@ live-bare desk tables width base kept now nothing at is none same laid empty = r
   kept_at = record { at_least = at.at_least; at_most = at.at_most; split = subst (IsSplit tables) (sym same) at.split; laid = laid };
   text_is = λ h. ap concat same ∙ is;
   unshown = λ h. absurd (both_ways false refl h);
-  at_hand = nothing-at_hand now nothing none;
+  at_hand = nothing-at_hand tables now nothing (subst (IsSplit tables) (sym same) at.split) none;
   of_now = inl (nothing-window now nothing none);
   held_is = omega (arith, empty);
   held_few = omega arith;

@@ -1,7 +1,7 @@
 -- Rows that are dropped, and how many are kept then.
 use Rattle.std.proofs.Common.{◌≡◌, ℕ, zero, suc, ◌+◌, ◌-◌, ◌<◌, ◌≤◌, ◌⊎◌, inl, inr, Bool, true, false, None, Some, Option, List, [], ◌∷◌, ◌++◌, length, get_or, map, take, drop, slice_range, flat_map, refl, sym, ap, ap₂, subst, ◌∙◌, arith}
 use Rattle.std.proofs.lemmas.Bool.{cases_lt}
-use Rattle.std.proofs.lemmas.List.{take-map, drop-map, length-map, get_or-append_right, get_or_append_left, drop-drop, length-drop, length-take-le}
+use Rattle.std.proofs.lemmas.List.{take-map, drop-map, length-map, get_or-append_right, get_or_append_left, drop-drop, length-take-le}
 use Rattle.std.proofs.lemmas.List.Concat.{flat_map-cons}
 use Rattle.std.proofs.lemmas.List.Edits.{split_between, length-between, get_or-between}
 use Rattle.std.proofs.lemmas.List.Elements.{All-append, All-take, All-drop, All-head, All-tail}
@@ -23,8 +23,6 @@ use Rattle.text_buffer.specs.declared.touched.Touched.{Touched}
 use Rattle.live_document.specs.Keeping.{Rows, KeptText, rows_of_text, rows_of_texts, rows_beside, row_weight, rows_weight, weight_held, held_outside, IsLaid, flags, is_kept}
 use Rattle.live_document.specs.Cost.{marks, weight_kept, weight_outside}
 use Rattle.live_document.specs.Documents.{counted, paragraphs_of}
-use Rattle.live_document.specs.Showing.{rows_from, window_in, IsAtHand}
-use Rattle.live_document.specs.declared.shown.Shown.{Shown}
 use Rattle.live_document.proofs.Beside.{kept-same, laid-anew, own_held, held-cons}
 use Rattle.live_document.proofs.Cost.{flags-anew, none-kept}
 use Rattle.live_document.proofs.Placing.{slice-map}
@@ -304,9 +302,3 @@ pub kept-edited : (old new : List (KeptParagraph ℕ)) (steps : List Step) (from
 kept-edited old new steps from to most order touched held =
     let less = sum-in_turn own_kept (λ points. refl) old new steps touched in
     elim held [ inl few ↦ omega (arith, less, few) | inr inside ↦ (let own = kept-inside old from to order inside in omega (arith, less, own)) ]
-
--- a window that is at hand has the rows that it tells
-pub shown-count : (kept : KeptText) (s : Shown) → IsAtHand kept s → length (window_in kept s).rows ≡ s.count
-shown-count kept s enough =
-    let left = length-drop s.skip (rows_from kept s.first) in
-    length-take-le s.count (drop s.skip (rows_from kept s.first)) (omega arith)

@@ -8,7 +8,7 @@ use Rattle.std.specs.Prelude.{slice_get}
 use Rattle.cell_grid.specs.Rows.{DrawnRow, shifted}
 use Rattle.text_buffer.specs.Buffers.{bytes_in, text_in}
 use Rattle.live_document.specs.Keeping.{KeptText, rows_at}
-use Rattle.live_document.specs.Showing.{rows_from, IsReadable}
+use Rattle.live_document.specs.Showing.{rows_from}
 use Rattle.live_document.proofs.Stretches.{rows_from-next, rows_from-none}
 
 -- a row stands in a paragraph
@@ -65,13 +65,6 @@ take-first (z ∷ xs) (suc k) left x h some =
 pub further-same : {X : Type 0} (xs ys : List X) (m n k : ℕ) → drop m xs ≡ drop n ys → drop (m + k) xs ≡ drop (n + k) ys
 further-same xs ys m n k same = sym (drop-drop k m xs) ∙ ap (drop k) same ∙ drop-drop k n ys
 
-pub further-in : {X : Type 0} (xs ys : List X) (m n k : ℕ) → drop m xs ≡ drop n ys → n + k < length ys → m + k < length xs
-further-in xs ys m n k same within =
-    let e = ap length same in
-    let a = length-drop m xs in
-    let b = length-drop n ys in
-    omega arith
-
 get-take : {X : Type 0} (n k : ℕ) (l : List X) → k < n → slice_get (take n l) k ≡ slice_get l k
 get-take zero k l lt = absurd (omega arith)
 get-take (suc n) k [] lt = refl
@@ -96,17 +89,3 @@ row-in_window xs ys row skip count number same within =
 -- a window has no more rows than it counts, and as many where they are there
 pub window-size : {X : Type 0} (xs : List X) (skip count : ℕ) → skip + count ≤ length xs → length (take count (drop skip xs)) ≡ count
 window-size xs skip count enough = let left = length-drop skip xs in length-take-le count (drop skip xs) (omega arith)
-
--- so it is there
-pub inside-there : (kept : KeptText) (first skip count n k number : ℕ) → IsReadable kept first skip count → number < count
-    → drop k (rows_from kept n) ≡ drop (skip + number) (rows_from kept first) → k < length (rows_from kept n)
-inside-there kept first skip count n k number r within same =
-    let enough = r.enough in
-    let here = further-in (rows_from kept n) (rows_from kept first) k (skip + number) 0 same (omega arith) in
-    omega arith
-
-pub readable-there : (kept : KeptText) (first skip count n k number : ℕ) → IsReadable kept first skip count → number < count
-    → drop k (rows_from kept n) ≡ drop (skip + number) (rows_from kept first) → (left : ℕ) × IsReadable kept n k left
-readable-there kept first skip count n k number r within same =
-    let here = inside-there kept first skip count n k number r within same in
-    (0, record { tables = r.tables; width = r.width; base = r.base; kept_at = r.kept_at; enough = omega arith })

@@ -28,7 +28,7 @@ use Rattle.live_document.specs.declared.shown.Shown.{Shown}
 use Rattle.live_document.specs.Keeping.{Rows, KeptText, rows_at, rows_of_text, rows_of_texts, IsLaid, IsKeptAt, flags, is_kept}
 use Rattle.live_document.specs.Cost.{top_of, bottom_of, HasRow}
 use Rattle.live_document.specs.LawsBelow.{LawsBelow}
-use Rattle.live_document.specs.Showing.{rows_from, window_in, IsAtHand, IsRowOf}
+use Rattle.live_document.specs.Showing.{rows_from, window_in, IsRowOf}
 use Rattle.live_document.proofs.Placing.{IsText, points_of, text-is, All-parts, slice-map, place-at, follow-drop, follow-take}
 use Rattle.live_document.proofs.Beside.{rows_at-laid}
 use Rattle.live_document.proofs.Marks.{slice-front, rows-down, rows-none}
@@ -456,7 +456,7 @@ module _ (below : LawsBelow) (tables : TableValues) (width : ℕ) (base : Base) 
 
     pub window-cut : ((k : ℕ) → first ≤ k → k < end → is_kept (flags kept) k ≡ true) → (s : Shown) → s.first ≡ first → s.skip ≡ up + row - above → s.count ≡ min (up + (count + down)) (up + row + beyond + 1) - (up + row - above)
         → s.number ≡ up + row - (up + row - above)
-        → (window_in kept s ≡ window_of above beyond place (flat_map rows paras)) × IsAtHand kept s
+        → (window_in kept s ≡ window_of above beyond place (flat_map rows paras)) × (s.skip + s.count ≤ length (rows_from kept s.first))
     window-cut there s at_first skip many number_is =
         let st = stretch-from tables width base kept paras first end texts-are texts (follow-from first) (All-drop IsText first paras texts)
         (All-drop (IsLaid tables width base) first kept at.laid) (omega arith) last there in

@@ -42,9 +42,11 @@ there_text tables kept number row = option_map_or (row_text tables (encode_utf8_
 abbrev pub there_sizes : TableValues → KeptText → (number row : ℕ) → List ℕ
 there_sizes tables kept number row = option_map_or (own_sizes tables (encode_utf8_all (text_in kept))) (slice_get (rows_from kept number) row) []
 
--- all its rows are kept
-abbrev pub IsAtHand : KeptText → Shown → Type 0
-IsAtHand kept s = s.skip + s.count ≤ length (rows_from kept s.first)
+-- all its rows are kept, of a paragraph that is there and those behind it, and can be counted
+pub record IsAtHand (kept : KeptText) (s : Shown) : Type 0 where
+  pub there : s.first < length kept
+  pub enough : s.skip + s.count ≤ length (rows_from kept s.first)
+  pub few : s.skip + s.count ≤ 15_000_000
 
 -- the row of a place, among so many of the paragraph in which the place stands
 pub record IsRowOf (tables : TableValues) (width : ℕ) (base : Base) (texts : List (List ℕ)) (place number row rows : ℕ) : Type 0 where
@@ -52,10 +54,10 @@ pub record IsRowOf (tables : TableValues) (width : ℕ) (base : Base) (texts : L
   pub count : rows ≡ length (rows_of_text tables width base (get_or texts number []))
   pub within : row < rows
 
--- rows are read behind so many of those that are kept from a paragraph on, and so many of them are left
-pub record IsReadable (kept : KeptText) (number row left : ℕ) : Type 0 where
+-- its rows may be read: they are those of their paragraphs
+pub record IsReadable (kept : KeptText) (s : Shown) : Type 0 where
   pub tables : TableValues
   pub width : ℕ
   pub base : Base
   pub kept_at : IsKeptAt tables width base kept
-  pub enough : row + left ≤ length (rows_from kept number)
+  pub at_hand : IsAtHand kept s

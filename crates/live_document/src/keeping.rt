@@ -4,12 +4,12 @@ ghost use Rattle.std.specs.Prelude.{◌≡◌, ◌+◌, ◌-◌, ◌*◌, ◌≤
 ghost use Rattle.bg_types.specs.declared.class.Base.{Base};
 ghost use Rattle.unicode_tables.specs.Tables.{TableValues};
 ghost use Rattle.text_buffer.specs.Buffers.{paragraphs_in};
-ghost use Rattle.live_document.specs.Keeping.{flags, is_kept, rows_at, rows_of_text, rows_of_texts, rows_weight, weight_held, IsLaid, IsKeptAt, IsMarked};
+ghost use Rattle.live_document.specs.Keeping.{flags, is_kept, rows_of_text, rows_of_texts, rows_weight, weight_held, IsLaid, IsKeptAt, IsMarked};
 
 use crate::laws_below::laws_below;
 use crate::paragraph_rows::ParagraphRows;
 use bg_types::{Base, Memory};
-use cell_grid::{Row, rows};
+use cell_grid::rows;
 use std::alloc::Global;
 use text_buffer::Buffer;
 use unicode_tables::Tables;
@@ -22,17 +22,6 @@ const FIRST_STEP: usize = 16;
 pub struct Most {
     pub rows: usize,
     ghost few: { rows ≤ 1_000_000 },
-}
-
-/// The rows that are kept of a paragraph, counted from its start; none where none are.
-pub fn kept_rows(buffer: &Buffer<ParagraphRows>, number: usize) -> &[Row]
-    requires { number < length buffer.now }
-    ensures { result.now ≡ rows_at buffer.now number }
-{
-    match buffer.kept(number) {
-        Some(kept) => kept.as_slice(),
-        None => &[],
-    }
 }
 
 /// Drops the rows of all paragraphs, as is needed before another width or base direction.

@@ -9,9 +9,10 @@ ghost use Rattle.live_document.specs.Cost.{allowed, top_of, bottom_of, AreKept, 
 ghost use Rattle.live_document.specs.Keeping.{flags, is_kept, rows_of_text, rows_weight, weight_held, held_outside, IsKeptAt};
 ghost use Rattle.live_document.specs.Showing.{window_in, IsAtHand, IsRowOf};
 
-use crate::keeping::{Reach, forget_others, kept_rows, lay_out, reach_down, reach_up};
+use crate::keeping::{Reach, forget_others, lay_out, reach_down, reach_up};
 use crate::laws_below::laws_below;
 use crate::paragraph_rows::{ParagraphRows, ROW_BYTES};
+use crate::reading::rows_under;
 use crate::shown::Shown;
 use bg_types::{Base, Memory};
 use caret::row_at;
@@ -86,8 +87,9 @@ fn own_row(
     let out = lay_out(alloc, tables, width, base, buffer, number)?;
     laws_below();
     let _bytes = buffer.bytes();
-    let first_place = buffer.paragraph(number).first_place();
-    let rows = kept_rows(buffer, number);
+    let cursor = buffer.cursor(number);
+    let first_place = cursor.paragraph().first_place();
+    let rows = rows_under(&cursor);
     Ok(OwnRow {
         number,
         row: row_at(rows, place - first_place),

@@ -1,13 +1,12 @@
 //! A window over the rows that a document keeps.
 
-ghost use Rattle.std.specs.Prelude.{◌≡◌, ◌+◌, ◌^◌, ◌<◌, ℕ, Some, take, drop, length, slice_get, IfOk};
+ghost use Rattle.std.specs.Prelude.{◌≡◌, ◌<◌, ℕ, Some, length, slice_get, IfOk};
 ghost use Rattle.cell_grid.specs.Rows.{shifted_entry};
 ghost use Rattle.cell_grid.specs.Shifting.{MayShift};
 ghost use Rattle.live_document.specs.Keeping.{rows_at};
 ghost use Rattle.live_document.specs.Showing.{rows_from, window_in, IsReadable};
 ghost use Rattle.live_document.specs.Reading.{IsReading};
 
-use crate::keeping::kept_rows;
 use crate::laws_below::laws_below;
 use crate::paragraph_rows::ParagraphRows;
 use crate::reading::{go_to_row, rows_under};
@@ -34,12 +33,12 @@ impl<'a> Model for Window<'a> {
 
     ghost view = { λ w. window_in w.buffer.now w.shown };
 
-    ghost invariant = { λ w. IsReadable w.buffer.now w.shown.first w.shown.skip w.shown.count };
+    ghost invariant = { λ w. IsReadable w.buffer.now w.shown };
 }
 
 impl<'a> Window<'a> {
     pub(crate) fn of(buffer: &'a Buffer<ParagraphRows>, shown: Shown) -> Window<'a>
-        requires { IsReadable buffer.now shown.first shown.skip shown.count }
+        requires { IsReadable buffer.now shown }
         ensures { result ≡ window_in buffer.now shown }
     {
         Window { buffer, shown }
@@ -62,13 +61,16 @@ impl<'a> Window<'a> {
     }
 
     /// The row with this number, from 0 at the top.
-    /// Cost: O(64) for each paragraph that has a row in the window up to it.
+    /// Cost: that of `Window::rows`, and O(1) for each paragraph that has a row in the window up to it.
     pub fn row(&self, number: usize) -> WindowRow<'a>
         requires { number < length self.now.rows }
         ensures { slice_get self.now.rows number ≡ Some result }
     {
-        let spot = spot_behind(self.buffer, self.shown, number);
-        row_there(self.buffer, spot)
+        // The text has no more bytes than it may.
+        let _bytes = self.buffer.bytes();
+        let mut cursor = self.buffer.cursor(self.shown.first);
+        let row = go_to_row(&mut cursor, self.shown.skip + number);
+        row_under(&cursor, row)
     }
 
     /// Copies of its rows, where they stand in the text.
@@ -90,10 +92,9 @@ impl<'a> Window<'a> {
     {
         // The text has no more bytes than it may.
         let _bytes = self.buffer.bytes();
-        let top = top_of(self.buffer, self.shown);
         WindowRows {
-            cursor: self.buffer.cursor(top.number),
-            row: top.row,
+            cursor: self.buffer.cursor(self.shown.first),
+            row: self.shown.skip,
             left: self.shown.count,
         }
     }
@@ -146,22 +147,6 @@ impl<'a> Iterator for WindowRows<'a> {
     }
 }
 
-/// Where the rows that are shown begin. Where there are none, the text does.
-fn top_of(buffer: &Buffer<ParagraphRows>, shown: Shown) -> Spot
-    requires { IsReadable buffer.now shown.first shown.skip shown.count }
-    ensures within { result.number < length buffer.now }
-    ensures readable { IsReadable buffer.now result.number result.row shown.count }
-    ensures same { take shown.count (drop result.row (rows_from buffer.now result.number)) ≡ take shown.count (drop shown.skip (rows_from buffer.now shown.first)) }
-{
-    if shown.count == 0 {
-        return Spot { number: 0, row: 0 };
-    }
-    Spot {
-        number: shown.first,
-        row: shown.skip,
-    }
-}
-
 /// A row of a cursor's paragraph, where it stands in the text.
 fn row_under<'a>(cursor: &Cursor<'a, ParagraphRows>, row: usize) -> WindowRow<'a>
     requires reading { (left : ℕ) × IsReading cursor.now row left }
@@ -173,74 +158,6 @@ fn row_under<'a>(cursor: &Cursor<'a, ParagraphRows>, row: usize) -> WindowRow<'a
     let rows = rows_under(cursor);
     WindowRow {
         row: &rows[row],
-        bytes: para.first_byte() as u32,
-        places: para.first_place() as u32,
-    }
-}
-
-/// A row among those that are kept of a paragraph.
-#[derive(Clone, Copy)]
-pub struct Spot {
-    /// The number of the paragraph.
-    pub number: usize,
-    /// Which of its rows it is.
-    pub row: usize,
-}
-
-/// The paragraph in which a row stands that is counted from a paragraph on.
-pub fn spot_of(buffer: &Buffer<ParagraphRows>, number: usize, row: usize) -> Spot
-    requires { row < length (rows_from buffer.now number) }
-    ensures within { result.number < length buffer.now }
-    ensures inside { result.row < length (rows_at buffer.now result.number) }
-    ensures few { result.row + 1 < 2 ^ 64 }
-    ensures same { drop result.row (rows_from buffer.now result.number) ≡ drop row (rows_from buffer.now number) }
-{
-    // There are no more paragraphs than can be counted.
-    let _paragraphs = buffer.paragraph_count();
-    let mut number = number;
-    let mut row = row;
-    let mut count = kept_rows(buffer, number).len();
-    while row >= count {
-        row -= count;
-        number += 1;
-        count = kept_rows(buffer, number).len();
-    }
-    Spot { number, row }
-}
-
-/// The paragraph in which the row stands that is shown with this number.
-pub fn spot_behind(buffer: &Buffer<ParagraphRows>, shown: Shown, number: usize) -> Spot
-    requires { shown.skip + number < length (rows_from buffer.now shown.first) }
-    ensures within { result.number < length buffer.now }
-    ensures inside { result.row < length (rows_at buffer.now result.number) }
-    ensures same { drop result.row (rows_from buffer.now result.number) ≡ drop (shown.skip + number) (rows_from buffer.now shown.first) }
-{
-    // There are no more paragraphs than can be counted.
-    let _paragraphs = buffer.paragraph_count();
-    let first = spot_of(buffer, shown.first, shown.skip);
-    let left = kept_rows(buffer, first.number).len() - first.row;
-    if number < left {
-        return Spot {
-            number: first.number,
-            row: first.row + number,
-        };
-    }
-    spot_of(buffer, first.number + 1, number - left)
-}
-
-/// The row there, where it stands in the text.
-fn row_there<'a>(buffer: &'a Buffer<ParagraphRows>, spot: Spot) -> WindowRow<'a>
-    requires readable { (left : ℕ) × IsReadable buffer.now spot.number spot.row left }
-    requires within { spot.number < length buffer.now }
-    requires inside { spot.row < length (rows_at buffer.now spot.number) }
-    ensures { slice_get (rows_from buffer.now spot.number) spot.row ≡ Some result }
-{
-    laws_below();
-    let _bytes = buffer.bytes();
-    let para = buffer.paragraph(spot.number);
-    let rows = kept_rows(buffer, spot.number);
-    WindowRow {
-        row: &rows[spot.row],
         bytes: para.first_byte() as u32,
         places: para.first_place() as u32,
     }

@@ -7,10 +7,10 @@ ghost use Rattle.cell_grid.specs.Print.{printed, printed_row, printed_sizes};
 ghost use Rattle.live_document.specs.Documents.{shown_grid};
 
 use crate::document::Document;
-use crate::printing::{
-    print_shown, print_shown_row, shown_entry_sizes, shown_row_size, shown_size,
-};
+use crate::printing::{text_shown, text_under};
+use crate::reading::go_to_row;
 use bg_types::{Device, Memory, Sink};
+use cell_grid::{print_row, row_entry_sizes, row_print_size};
 
 impl Document {
     /// Writes all rows that are shown, as `cell_grid::print` writes these rows of the whole text's grid: the text of each cell,
@@ -24,7 +24,17 @@ impl Document {
         ensures err { OnErr result (AppendsBeginning (W.written sink.old) (W.written sink.new) (printed (shown_grid self.now))) }
         ensures failed { W.has_failed sink.new ≡ is_err result }
     {
-        print_shown(&self.tables, &self.buffer, self.shown, sink)
+        // The text has no more bytes than it may.
+        let _bytes = self.buffer.bytes();
+        let mut cursor = self.buffer.cursor(self.shown.first);
+        let mut row = self.shown.skip;
+        for _ in 0..self.shown.count {
+            let number = go_to_row(&mut cursor, row);
+            let own = text_under(&cursor, number);
+            print_row(&self.tables, own.text, own.row, sink)?;
+            row = number + 1;
+        }
+        Ok(())
     }
 
     /// How many bytes `print` writes. Takes no memory. `Memory` where they are more than can be counted.
@@ -32,7 +42,19 @@ impl Document {
     pub fn print_size(&self) -> Result<usize, Memory>
         ensures { IfOk result (λ size. size ≡ length (printed (shown_grid self.now))) }
     {
-        shown_size(&self.tables, &self.buffer, self.shown)
+        // The text has no more bytes than it may.
+        let _bytes = self.buffer.bytes();
+        let mut cursor = self.buffer.cursor(self.shown.first);
+        let mut row = self.shown.skip;
+        let mut size = 0usize;
+        for _ in 0..self.shown.count {
+            let number = go_to_row(&mut cursor, row);
+            let own = text_under(&cursor, number);
+            let more = row_print_size(&self.tables, own.text, own.row)?;
+            size = size.checked_add(more).ok_or(Memory)?;
+            row = number + 1;
+        }
+        Ok(size)
     }
 
     /// Writes a row that is shown, by its number from 0, as `print` does. Takes no memory.
@@ -46,7 +68,8 @@ impl Document {
         ensures err { OnErr result (AppendsBeginning (W.written sink.old) (W.written sink.new) (printed_row (shown_grid self.now) number)) }
         ensures failed { W.has_failed sink.new ≡ is_err result }
     {
-        print_shown_row(&self.tables, &self.buffer, self.shown, number, sink)
+        let own = text_shown(&self.buffer, self.shown, number);
+        print_row(&self.tables, own.text, own.row, sink)
     }
 
     /// How many bytes `print_row` writes. Takes no memory. `Memory` where they are more than can be counted.
@@ -55,7 +78,8 @@ impl Document {
         requires { number < length self.now.window.rows }
         ensures { IfOk result (λ size. size ≡ length (printed_row (shown_grid self.now) number)) }
     {
-        shown_row_size(&self.tables, &self.buffer, self.shown, number)
+        let own = text_shown(&self.buffer, self.shown, number);
+        row_print_size(&self.tables, own.text, own.row)
     }
 
     /// Answers how many bytes the cells of each entry of a row that is shown have in what `print_row` writes, as
@@ -66,6 +90,7 @@ impl Document {
         requires room { length (printed_sizes (shown_grid self.now) number) ≤ length sizes.old }
         ensures { OnOk result (sizes.new ≡ printed_sizes (shown_grid self.now) number ++ drop (length (printed_sizes (shown_grid self.now) number)) sizes.old) }
     {
-        shown_entry_sizes(&self.tables, &self.buffer, self.shown, number, sizes)
+        let own = text_shown(&self.buffer, self.shown, number);
+        row_entry_sizes(&self.tables, own.text, own.row, sizes)
     }
 }

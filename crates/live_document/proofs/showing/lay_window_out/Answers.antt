@@ -139,7 +139,11 @@ returns c =
       kept = at;
       paragraphs = e04;
       window = subst (λ ts. window_in b4 shown ≡ window_of above below place (grid_rows T w base (encode_utf8_all (concat ts)))) e04 cut.0;
-      at_hand = cut.1;
+      at_hand = record {
+        there = omega (arith, c.cut_out-shown.ensures.first, ue.order, there, n0, n4, l4);
+        enough = cut.1;
+        few = omega (arith, c.cut_out-shown.ensures.skip, c.cut_out-shown.ensures.count, oe.row.within, oe.few, ue.few, de.few);
+      };
       order = omega (arith, c.cut_out-shown.ensures.first, ue.order, de.order);
       top =
           subst (λ n. HasRow T w base (paragraphs_in b0) n (top_of place above (grid_rows T w base (encode_utf8_all (text_in b0))))) (sym c.cut_out-shown.ensures.first)

@@ -43,7 +43,7 @@ invariant_of-self-2 c =
     let now = c.catch_up.new.buffer in
     let n = c.nothing-self-inside in
     let before = subst (λ (tables : TableValues). IsKeptAt tables i.width i.base i.buffer) (sym c.deref.ensures) c.self.invariant.kept_at in
-    live-caught i.desk i.tables.value i.width i.base now n.result i.held
-    (subst (λ (tables : TableValues). IsKeptAt tables i.width i.base now) c.deref.ensures (c.in_ok-catch_up.ensures.kept i.width i.base before))
-    c.in_ok-catch_up.ensures.text (nothing-at_hand now n.result n.ensures) (inl (nothing-window now n.result n.ensures))
+    let at = subst (λ (tables : TableValues). IsKeptAt tables i.width i.base now) c.deref.ensures (c.in_ok-catch_up.ensures.kept i.width i.base before) in
+    live-caught i.desk i.tables.value i.width i.base now n.result i.held at
+    c.in_ok-catch_up.ensures.text (nothing-at_hand i.tables.value now n.result at.split n.ensures) (inl (nothing-window now n.result n.ensures))
     (omega (arith, c.in_ok-catch_up.ensures.held, c.self.invariant.held_is)) c.self.invariant.held_few

@@ -1,5 +1,5 @@
 -- What is laid out is kept beside the paragraphs of the desk's text.
-use Rattle.std.proofs.Common.{inl, inr, ℕ, List, map, arith, ap, ap₂, sym, subst, ◌∙◌}
+use Rattle.std.proofs.Common.{◌≡◌, inl, inr, ℕ, List, length, map, arith, ap, ap₂, sym, subst, ◌∙◌}
 use Rattle.std.specs.List.{concat}
 use Rattle.paragraphs.specs.Paragraphs.{paragraph_points}
 use Rattle.rga_tree.specs.TextOf.{text}
@@ -8,11 +8,12 @@ use Rattle.unicode_tables.specs.Tables.{TableValues}
 use Rattle.live_document.specs.Cost.{allowed, top_of, bottom_of, marks, weight_outside, unmarked, IsLaidOut, IsWindowKept}
 use Rattle.live_document.specs.Documents.{LiveDocument, counted}
 use Rattle.live_document.specs.Keeping.{is_kept, IsKeptAt}
-use Rattle.live_document.specs.Showing.{window_in}
+use Rattle.live_document.specs.Showing.{rows_from, window_in}
 use Rattle.cell_grid.proofs.Interface.{on_err}
 use Rattle.live_document.proofs.Followed.{live-bare}
-use Rattle.live_document.proofs.Forgotten.{kept-held, none-behind, outside-held, shown-count, slice-held}
+use Rattle.live_document.proofs.Forgotten.{kept-held, none-behind, outside-held, slice-held}
 use Rattle.live_document.proofs.Cost.{live-caught, unkept-behind, marks-counted, row-alike, texts-counted, texts-live}
+use Rattle.live_document.proofs.Spots.{window-size}
 use Rattle.live_document.proofs.document.Document.show.Goals as goal
 
 pub lay_window_out-requires-clause-kept : goal.lay_window_out-requires-clause-kept
@@ -36,7 +37,8 @@ returns-in-Ok-clause-laid c =
     let seen = live-caught i.behind i.tables.value i.desk.set i.buffer before caught.same caught.nothing split in
     let outside = outside-held before o.shown.first o.end ∙ ap (λ ps. weight_outside ps o.shown.first o.end) seen in
     let inside = slice-held after o.shown.first o.end in
-    let count = ap (allowed i.most.rows i.width) (shown-count after o.shown e.at_hand) in
+    let size : length (window_in after o.shown).rows ≡ o.shown.count = window-size (rows_from after o.shown.first) o.shown.skip o.shown.count e.at_hand.enough in
+    let count = ap (allowed i.most.rows i.width) size in
     let new : LiveDocument = record { desk = i.desk; tables = i.tables.value; width = i.width; base = i.base; paragraphs = map counted after; most = i.most.rows; window = window_in after o.shown; laid = o.laid } in
     subst (λ (d : LiveDocument). IsLaidOut d new c.args.place c.args.above c.args.below) c.self.view_is
     (record {

@@ -9,6 +9,6 @@ pub returns : goal.returns
 returns c =
     let inside = c.self.inside in
     let rows = rows_from inside.buffer.now inside.shown.first in
-    let enough = c.self.invariant.enough in
+    let enough = c.self.invariant.at_hand.enough in
     let left = length-drop inside.shown.skip rows in
     sym (length-take-le inside.shown.count (drop inside.shown.skip rows) (omega arith)) ∙ ap (λ (w : DrawnWindow). length w.rows) c.self.view_is

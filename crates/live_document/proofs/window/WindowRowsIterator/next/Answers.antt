@@ -6,7 +6,7 @@ use Rattle.live_document.proofs.Cursors.{reading-on, reading-past}
 use Rattle.live_document.proofs.window.WindowRowsIterator.next.Goals as goal
 
 pub go_to_row-number-requires : goal.go_to_row-number-requires
-go_to_row-number-requires c = let enough = c.self.invariant.readable.enough in omega arith
+go_to_row-number-requires c = let enough = c.self.invariant.enough in omega arith
 
 pub row_under-row-requires-clause-reading : goal.row_under-row-requires-clause-reading
 row_under-row-requires-clause-reading c =
