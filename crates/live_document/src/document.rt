@@ -447,7 +447,10 @@ impl Document {
         // Whatever came before, it is none of an older text, nor of another width or base.
         ensures of_now { IsWindowOf self.now.desk.set self.now.tables self.now.width self.now.base self.now.window }
     {
-        Window::of(&self.buffer, self.shown)
+        Window {
+            buffer: &self.buffer,
+            shown: self.shown,
+        }
     }
 
     /// How many paragraphs the window that was shown last took to lay out, a caret's too, or 0 before the first.

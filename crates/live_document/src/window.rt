@@ -4,7 +4,7 @@ ghost use Rattle.std.specs.Prelude.{◌≡◌, ◌<◌, ℕ, Some, length, slice
 ghost use Rattle.cell_grid.specs.Rows.{shifted_entry};
 ghost use Rattle.cell_grid.specs.Shifting.{MayShift};
 ghost use Rattle.live_document.specs.Keeping.{rows_at};
-ghost use Rattle.live_document.specs.Showing.{rows_from, window_in, IsReadable};
+ghost use Rattle.live_document.specs.Showing.{rows_from};
 ghost use Rattle.live_document.specs.Reading.{IsReading};
 
 use crate::laws_below::laws_below;
@@ -20,8 +20,8 @@ use text_buffer::{Buffer, Cursor};
 /// The rows round a place, as `Document::show` laid them out. It borrows the document and copies nothing.
 #[derive(Drop)]
 pub struct Window<'a> {
-    buffer: &'a Buffer<ParagraphRows>,
-    shown: Shown,
+    pub(crate) buffer: &'a Buffer<ParagraphRows>,
+    pub(crate) shown: Shown,
 }
 
 impl<'a> Model for Window<'a> {
@@ -37,13 +37,6 @@ impl<'a> Model for Window<'a> {
 }
 
 impl<'a> Window<'a> {
-    pub(crate) fn of(buffer: &'a Buffer<ParagraphRows>, shown: Shown) -> Window<'a>
-        requires { IsReadable buffer.now shown }
-        ensures { result ≡ window_in buffer.now shown }
-    {
-        Window { buffer, shown }
-    }
-
     /// How many rows it has: none before the first `show`, and after a change.
     #[inline]
     pub fn len(&self) -> usize
