@@ -38,7 +38,10 @@ impl ParagraphRows {
         requires few { length rows.items ≤ 5_000_000 }
         ensures { result ≡ rows.items }
     {
-        let weight = weigh(&rows);
+        let mut weight = 0;
+        for row in &rows {
+            weight += ROW_BYTES + RUN_BYTES * row.run_count();
+        }
         ParagraphRows { rows, weight }
     }
 
@@ -65,16 +68,4 @@ impl Weighed for ParagraphRows {
     fn weight(&self) -> usize {
         self.weight
     }
-}
-
-/// What rows weigh.
-fn weigh(rows: &[Row]) -> usize
-    requires few { length rows.now ≤ 5_000_000 }
-    ensures { Weigh rows.now result }
-{
-    let mut weight = 0;
-    for row in rows {
-        weight += ROW_BYTES + RUN_BYTES * row.run_count();
-    }
-    weight
 }
