@@ -1,11 +1,10 @@
 -- Each place of a drawn text has its cluster, and the text's end the last one.
-use Rattle.std.proofs.Common.{◌≡◌, ℕ, ◌+◌, ◌-◌, ◌<◌, List, [], ◌∷◌, length, get_or, Some, refl, ap, sym, subst, ◌∙◌, inl, inr, arith}
+use Rattle.std.proofs.Common.{◌≡◌, ℕ, ◌+◌, ◌-◌, ◌<◌, List, [], ◌∷◌, length, Some, refl, ap, sym, subst, ◌∙◌, inl, inr, arith}
 use Rattle.std.specs.Prelude.{nat_le, nat_lt, slice_get}
 use Rattle.std.specs.Option.{option_map_or}
 use Rattle.std.specs.List.{All}
 use Rattle.std.specs.Str.{chars}
 use Rattle.std.proofs.lemmas.Bool.{leb-true, ltb-true, le-leb, lt-ltb, eq-eqb, eqb-true, and_parts, and_from, cases_lt}
-use Rattle.std.proofs.lemmas.Option.{slice_get-get_or}
 use Rattle.cell_grid.proofs.Interface.{all_at}
 use Rattle.cell_grid.specs.declared.entry.Entry.{Entry}
 use Rattle.cell_grid.specs.Rows.{DrawnRow}
@@ -18,11 +17,7 @@ use Rattle.cell_grid.proofs.Interface.{last_below-within}
 use Rattle.caret.proofs.RowOrder.{first_place-row_at, last_place-row_at, row_at-end, last_place-at_end, first_place-last_place}
 use Rattle.caret.proofs.CaretAt.{caret_at-end, caret_at-cluster}
 use Rattle.caret.proofs.Finding.{Found, found}
-
--- the element of a number below theirs
-an_element : {A P : Type 0} (xs : List A) (k : ℕ) → k < length xs → ((x : A) → slice_get xs k ≡ Some x → P) → P
-an_element [] k within then = absurd (omega arith)
-an_element (x ∷ xs) k within then = then (get_or (x ∷ xs) k x) (slice_get-get_or (x ∷ xs) k x within)
+use Rattle.caret.proofs.Steps.{an_element}
 
 -- the first entry that passes, where one passes
 module _ (number : ℕ) (row : DrawnRow) where

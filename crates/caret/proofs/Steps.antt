@@ -14,10 +14,10 @@ pub element_before-is : {A : Type 0} (xs : List A) (n : ℕ) → 0 < n → eleme
 element_before-is xs zero some = absurd (omega arith)
 element_before-is xs (suc n) some = ap (λ k. slice_get xs k) (omega arith)
 
--- an entry of a row, where its number is below theirs
-an_entry : {P : Type 0} (entries : List Entry) (k : ℕ) → k < length entries → ((e : Entry) → slice_get entries k ≡ Some e → P) → P
-an_entry [] k within then = absurd (omega arith)
-an_entry (e ∷ entries) k within then = then (get_or (e ∷ entries) k e) (slice_get-get_or (e ∷ entries) k e within)
+-- the element of a number below theirs
+pub an_element : {A P : Type 0} (xs : List A) (k : ℕ) → k < length xs → ((x : A) → slice_get xs k ≡ Some x → P) → P
+an_element [] k within then = absurd (omega arith)
+an_element (x ∷ xs) k within then = then (get_or (x ∷ xs) k x) (slice_get-get_or (x ∷ xs) k x within)
 
 module _ (rows : List DrawnRow) (row : DrawnRow) where
   pub right_of-inside : (caret : Caret) (e : Entry) → slice_get rows caret.row ≡ Some row → slice_get row.entries caret.gap ≡ Some e → right_of rows caret ≡ over_to_right caret e
@@ -31,7 +31,7 @@ module _ (rows : List DrawnRow) (row : DrawnRow) where
 
   right_of-stands : (caret : Caret) (number gap : ℕ) → slice_get rows number ≡ Some row → StandsAt caret number gap → gap < length row.entries → StandsAt (right_of rows caret) number (suc gap)
   right_of-stands caret number gap is at within =
-      an_entry row.entries gap within (λ e there.
+      an_element row.entries gap within (λ e there.
       let step = right_of-inside caret e (ap (λ n. slice_get rows n) at.row ∙ is) (ap (λ n. slice_get row.entries n) at.gap ∙ there) in
       record {
         row = ap (λ (c : Caret). c.row) step ∙ at.row;
@@ -40,7 +40,7 @@ module _ (rows : List DrawnRow) (row : DrawnRow) where
 
   left_of-stands : (caret : Caret) (number gap : ℕ) → slice_get rows number ≡ Some row → StandsAt caret number (suc gap) → gap < length row.entries → StandsAt (left_of rows caret) number gap
   left_of-stands caret number gap is at within =
-      an_entry row.entries gap within (λ e there.
+      an_element row.entries gap within (λ e there.
       let g = at.gap in
       let before : caret.gap - 1 ≡ gap = omega arith in
       let step = left_of-inside caret e (ap (λ n. slice_get rows n) at.row ∙ is) (omega arith) (ap (λ n. slice_get row.entries n) before ∙ there) in
