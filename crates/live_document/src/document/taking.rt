@@ -128,7 +128,9 @@ impl Document {
             .reserve(self.desk.op_count() + other.op_count())
             .is_err()
         {
-            return self.merge_untold(other);
+            self.behind = true;
+            self.shown = Shown::nothing();
+            return self.desk.merge(other);
         }
         self.merge_telling(other, &mut changes)
     }
@@ -170,30 +172,6 @@ impl Document {
             self.behind,
             &changes[told..],
         );
-        self.shown = Shown::nothing();
-        outcome
-    }
-
-    /// Merges another desk without telling what that changed: the paragraphs are behind then.
-    fn merge_untold(&mut self, other: &Desk) -> Result<u32, TakeFault>
-        ensures ok { OnOk result (self.new.desk.set ≡ union self.old.desk.set other.now.set) }
-        ensures agree { OnOk result (Agree self.old.desk.set other.now.set) }
-        ensures accepted { OnOk result ((fault : Fault) → ¬ (IsMergeRefusal self.old.desk.set other.now.set fault)) }
-        ensures count { IfOk result (λ n. size self.new.desk.set ≡ size self.old.desk.set + n) }
-        ensures limited { OnOk result (size self.new.desk.set ≤ 1_000_000) }
-        ensures fault { IfErr result (IsMergeRefused self.old.desk.set other.now.set self.new.desk.set) }
-        ensures reused { IfErr result (λ fault. fault ≡ TakeFault.IdentifierReused → self.new.desk ≡ self.old.desk) }
-        ensures nothing_new { ((op : View) → Holds other.now.set op → Holds self.old.desk.set op) → IsOk result }
-        ensures site { self.new.desk.site ≡ self.old.desk.site }
-        ensures spare { size self.old.desk.set + self.old.desk.spare ≤ size self.new.desk.set + self.new.desk.spare }
-        ensures unpaid { IfErr result (λ fault. fault ≡ TakeFault.Memory → self.old.desk.spare < size other.now.set) }
-        ensures drawn { IsDrawnAlike self.old self.new }
-        ensures window { self.new.window ≡ no_window }
-        ensures kept { IsBare self.new.paragraphs }
-        ensures laid { self.new.laid ≡ self.old.laid }
-    {
-        let outcome = self.desk.merge(other);
-        self.behind = true;
         self.shown = Shown::nothing();
         outcome
     }
