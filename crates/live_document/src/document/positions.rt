@@ -36,7 +36,6 @@ impl Document {
         ensures uncounted { OnErr result ((self.new.laid ≡ self.old.laid) ⊎ IsLaidOut self.old self.new place 0 0) }
     {
         laws_below();
-        self.refresh()?;
         let rows = self.rows_round(place, 0)?;
         Ok(Position::of(&rows, at_place_among(&rows, place)))
     }
@@ -57,7 +56,6 @@ impl Document {
         ensures uncounted { OnErr result ((self.new.laid ≡ self.old.laid) ⊎ IsLaidOut self.old self.new place 0 0) }
     {
         laws_below();
-        self.refresh()?;
         let rows = self.rows_round(place, 0)?;
         Ok(Position::of(&rows, at_column_among(&rows, 0, column)))
     }
@@ -99,7 +97,6 @@ impl Document {
         ensures uncounted { OnErr result ((self.new.laid ≡ self.old.laid) ⊎ IsLaidOut self.old self.new position.row 1 1) }
     {
         laws_below();
-        self.refresh()?;
         let rows = self.rows_round(position.row, 1)?;
         let caret = position.caret_among(&rows);
         Ok(Position::of(&rows, right_among(&rows, caret)))
@@ -119,7 +116,6 @@ impl Document {
         ensures uncounted { OnErr result ((self.new.laid ≡ self.old.laid) ⊎ IsLaidOut self.old self.new position.row 1 1) }
     {
         laws_below();
-        self.refresh()?;
         let rows = self.rows_round(position.row, 1)?;
         let caret = position.caret_among(&rows);
         Ok(Position::of(&rows, left_among(&rows, caret)))
@@ -139,7 +135,6 @@ impl Document {
         ensures uncounted { OnErr result ((self.new.laid ≡ self.old.laid) ⊎ IsLaidOut self.old self.new position.row 1 1) }
     {
         laws_below();
-        self.refresh()?;
         let rows = self.rows_round(position.row, 1)?;
         let caret = position.caret_among(&rows);
         Ok(Position::of(&rows, up_among(&rows, caret)))
@@ -159,7 +154,6 @@ impl Document {
         ensures uncounted { OnErr result ((self.new.laid ≡ self.old.laid) ⊎ IsLaidOut self.old self.new position.row 1 1) }
     {
         laws_below();
-        self.refresh()?;
         let rows = self.rows_round(position.row, 1)?;
         let caret = position.caret_among(&rows);
         Ok(Position::of(&rows, down_among(&rows, caret)))
@@ -189,8 +183,9 @@ impl Document {
 
     /// The rows from so many above the row of a place to so many below it, copied. Then they are shown.
     fn rows_round(&mut self, place: usize, around: usize) -> Result<Vec<Row>, Memory>
-        requires place { place ≤ length (visible self.old.desk.set) }
+        requires place { IsDrawn (whole_grid self.old) → place ≤ length (visible self.old.desk.set) }
         requires around { around ≤ 1_000 }
+        ensures whole { OnOk result (IsDrawn (whole_grid self.old)) }
         ensures copies { IfOk result (λ rows. rows.items ≡ (window_round self.old place around around).rows) }
         ensures desk { self.new.desk ≡ self.old.desk }
         ensures drawn { IsDrawnAlike self.old self.new }
@@ -198,6 +193,7 @@ impl Document {
         ensures laid { OnOk result (IsLaidOut self.old self.new place around around) }
         ensures uncounted { OnErr result ((self.new.laid ≡ self.old.laid) ⊎ IsLaidOut self.old self.new place around around) }
     {
+        self.refresh()?;
         self.show(place, around, around)?;
         self.window().to_rows(self.alloc)
     }

@@ -1,45 +1,38 @@
 -- The move looks at no row but the neighbours.
-use Rattle.std.proofs.Common.{◌≤◌, List, length, sym, ap, ap₂, subst, ◌∙◌}
-use Rattle.rga_tree.specs.TextOf.{visible}
-use Rattle.desk_replica.specs.Desk.{Desk}
+use Rattle.std.proofs.Common.{List, sym, ap, ap₂, subst, ◌∙◌}
 use Rattle.cell_grid.specs.Rows.{DrawnRow}
 use Rattle.cell_grid.specs.Windows.{FirstPlacesRise}
 use Rattle.caret.specs.Gaps.{IsCaretOf}
 use Rattle.caret.specs.Moves.{down_of}
 use Rattle.caret.specs.Positions.{caret_of, position_of, IsPositionOf}
 use Rattle.live_document.specs.Documents.{whole_grid}
-use Rattle.live_document.proofs.Cost.{laid-from, counted-from}
-use Rattle.cell_grid.proofs.Interface.{on_err}
-use Rattle.live_document.proofs.Positions.{seen-alike, position-place, shown-rises, shown-caret, near-stands, near-moves, near-moved}
+use Rattle.live_document.proofs.Positions.{position-place, shown-rises, shown-caret, near-stands, near-moves, near-moved}
 use Rattle.live_document.proofs.document.Document.down.Goals as goal
 
 pub rows_round-requires-clause-place : goal.rows_round-requires-clause-place
-rows_round-requires-clause-place c =
-    let p = c.args.position in
-    subst (λ (desk : Desk). p.row ≤ length (visible desk.set)) (sym c.refresh.ensures.desk)
-    (position-place c.laws_below.ensures c.args.self.now c.in_ok-refresh.ensures.whole p c.requires)
+rows_round-requires-clause-place c = λ whole. position-place c.laws_below.ensures c.args.self.now whole c.args.position c.requires
 
 pub caret_among-caret-requires-clause-rises : goal.caret_among-caret-requires-clause-rises
 caret_among-caret-requires-clause-rises c =
     let d = c.args.self.now in
     let p = c.args.position in
-    let seen = c.in_ok-rows.ensures.copies ∙ seen-alike d c.refresh.new.self p.row 1 c.refresh.ensures.desk c.refresh.ensures.drawn in
-    subst FirstPlacesRise (sym (c.deref.ensures.value ∙ seen)) (shown-rises c.laws_below.ensures (whole_grid d) c.in_ok-refresh.ensures.whole p.row 1)
+    let seen = c.in_ok-rows.ensures.copies in
+    subst FirstPlacesRise (sym (c.deref.ensures.value ∙ seen)) (shown-rises c.laws_below.ensures (whole_grid d) c.in_ok-rows.ensures.whole p.row 1)
 
 pub caret_among-caret-requires-clause-stands : goal.caret_among-caret-requires-clause-stands
 caret_among-caret-requires-clause-stands c =
     let d = c.args.self.now in
     let p = c.args.position in
-    let seen = c.in_ok-rows.ensures.copies ∙ seen-alike d c.refresh.new.self p.row 1 c.refresh.ensures.desk c.refresh.ensures.drawn in
-    subst (λ (rows : List DrawnRow). IsPositionOf rows p) (sym (c.deref.ensures.value ∙ seen)) (near-stands c.laws_below.ensures (whole_grid d) c.in_ok-refresh.ensures.whole p c.requires)
+    let seen = c.in_ok-rows.ensures.copies in
+    subst (λ (rows : List DrawnRow). IsPositionOf rows p) (sym (c.deref.ensures.value ∙ seen)) (near-stands c.laws_below.ensures (whole_grid d) c.in_ok-rows.ensures.whole p c.requires)
 
 pub returns-clause-position : goal.returns-clause-position
 returns-clause-position c =
     let d = c.args.self.now in
     let p = c.args.position in
     let below = c.laws_below.ensures in
-    let drawn = c.in_ok-refresh.ensures.whole in
-    let seen = c.in_ok-rows.ensures.copies ∙ seen-alike d c.refresh.new.self p.row 1 c.refresh.ensures.desk c.refresh.ensures.drawn in
+    let drawn = c.in_ok-rows.ensures.whole in
+    let seen = c.in_ok-rows.ensures.copies in
     c.of.ensures
     ∙ ap₂ (λ (l : List DrawnRow) k. position_of l k) (c.deref-2.ensures.value ∙ seen)
     (c.down_among.ensures.caret
@@ -52,14 +45,7 @@ returns-clause-stands c =
     let d = c.args.self.now in
     let p = c.args.position in
     let moved = c.down_among.result in
-    let seen = c.in_ok-rows.ensures.copies ∙ seen-alike d c.refresh.new.self p.row 1 c.refresh.ensures.desk c.refresh.ensures.drawn in
+    let seen = c.in_ok-rows.ensures.copies in
     let within = subst (λ (l : List DrawnRow). IsCaretOf l moved) (c.deref-3.ensures.value ∙ seen) c.down_among.ensures.within in
     subst (IsPositionOf (whole_grid d).rows) (sym (c.of.ensures ∙ ap (λ (l : List DrawnRow). position_of l moved) (c.deref-2.ensures.value ∙ seen)))
-    (shown-caret c.laws_below.ensures (whole_grid d) c.in_ok-refresh.ensures.whole p.row 1 moved within)
-
-pub returns-clause-laid : goal.returns-clause-laid
-returns-clause-laid c = laid-from c.refresh.new.self c.args.self.now c.rows_round.new.self c.args.position.row 1 1 c.refresh.ensures.paragraphs c.in_ok-rows.ensures.laid
-
-pub returns-in_err-rows-clause-uncounted : goal.returns-in_err-rows-clause-uncounted
-returns-in_err-rows-clause-uncounted c =
-    on_err c.from_residual-in_err-rows.result (counted-from c.refresh.new.self c.args.self.now c.rows_round.new.self c.args.position.row 1 1 c.refresh.ensures.paragraphs c.refresh.ensures.laid c.in_err-rows.ensures.uncounted)
+    (shown-caret c.laws_below.ensures (whole_grid d) c.in_ok-rows.ensures.whole p.row 1 moved within)
