@@ -87,13 +87,14 @@ pub text-count : (s : OperationSet) → length (text s) ≡ length (visible s)
 text-count s = length-map (visible s) (λ (e : Identifier × Node). e.1.ch)
 
 -- nothing is shown
-pub nothing-at_hand : (tables : TableValues) (kept : KeptText) (s : Shown) → IsSplit tables (paragraphs_in kept) → s ≡ record { first = 0; skip = 0; count = 0; number = 0 } → IsAtHand kept s
-nothing-at_hand tables kept s split is =
-    let some = split-some tables kept split in
-    subst (IsAtHand kept) (sym is) (record { there = some; enough = omega arith; few = omega arith })
+abbrev pub nothing : Shown
+nothing = record { first = 0; skip = 0; count = 0; number = 0 }
 
-pub nothing-window : (kept : KeptText) (s : Shown) → s ≡ record { first = 0; skip = 0; count = 0; number = 0 } → window_in kept s ≡ no_window
-nothing-window kept s is = ap (window_in kept) is
+pub nothing-at_hand : (tables : TableValues) (kept : KeptText) → IsSplit tables (paragraphs_in kept) → IsAtHand kept nothing
+nothing-at_hand tables kept split = record { there = split-some tables kept split; enough = omega arith; few = omega arith }
+
+pub nothing-window : (kept : KeptText) → window_in kept nothing ≡ no_window
+nothing-window kept = refl
 
 -- what is shown may be read
 pub live-readable : (desk : Desk) (tables : TableValues) (width : ℕ) (base : Base) (behind : Bool) (kept : KeptText) (s : Shown) (held : ℕ) → IsLive desk tables width base behind kept s held
@@ -101,16 +102,16 @@ pub live-readable : (desk : Desk) (tables : TableValues) (width : ℕ) (base : B
 live-readable desk tables width base behind kept s held live = record { tables = tables; width = width; base = base; kept_at = live.kept_at; at_hand = live.at_hand }
 
 -- a desk's text has changed, and the paragraphs with it or they are behind
-pub live-followed : (old new : Desk) (tables : TableValues) (width : ℕ) (base : Base) (behind later : Bool) (kept now : KeptText) (s nothing : Shown) (held from to : ℕ) (points : List ℕ)
-    → IsLive old tables width base behind kept s held → nothing ≡ record { first = 0; skip = 0; count = 0; number = 0 } → StaysKept tables kept now → weight_held now ≤ weight_held kept
+pub live-followed : (old new : Desk) (tables : TableValues) (width : ℕ) (base : Base) (behind later : Bool) (kept now : KeptText) (s : Shown) (held from to : ℕ) (points : List ℕ)
+    → IsLive old tables width base behind kept s held → StaysKept tables kept now → weight_held now ≤ weight_held kept
     → (later ≡ false → behind ≡ false) → (later ≡ false → text_in now ≡ replaced (text_in kept) from to points) → text new.set ≡ replaced (text old.set) from to points
     → IsLive new tables width base later now nothing held
-live-followed old new tables width base behind later kept now s nothing held from to points live none stays less before same changed = record {
+live-followed old new tables width base behind later kept now s held from to points live stays less before same changed = record {
   kept_at = stays width base live.kept_at;
   text_is = λ h. same h ∙ ap (λ t. replaced t from to points) (live.text_is (before h)) ∙ sym changed;
-  unshown = λ h. nothing-window now nothing none;
-  at_hand = nothing-at_hand tables now nothing (stays width base live.kept_at).split none;
-  of_now = inl (nothing-window now nothing none);
+  unshown = λ h. nothing-window now;
+  at_hand = nothing-at_hand tables now (stays width base live.kept_at).split;
+  of_now = inl (nothing-window now);
   held_is = omega (arith, less, live.held_is);
   held_few = live.held_few;
 }
@@ -145,30 +146,30 @@ live-range old tables width base behind kept s held changes later live edit h =
     subst (λ (t : List ℕ). AreInRange t changes) (sym (live.text_is h)) (changed-all changes (text old.set) later edit).0
 
 -- the changes of a desk's text are made in the paragraphs too, or these are behind
-pub live-told : (old new : Desk) (tables : TableValues) (width : ℕ) (base : Base) (behind later : Bool) (kept now : KeptText) (s nothing : Shown) (held : ℕ) (changes : List Change)
-    → IsLive old tables width base behind kept s held → nothing ≡ record { first = 0; skip = 0; count = 0; number = 0 } → StaysKept tables kept now → weight_held now ≤ weight_held kept
+pub live-told : (old new : Desk) (tables : TableValues) (width : ℕ) (base : Base) (behind later : Bool) (kept now : KeptText) (s : Shown) (held : ℕ) (changes : List Change)
+    → IsLive old tables width base behind kept s held → StaysKept tables kept now → weight_held now ≤ weight_held kept
     → (later ≡ false → behind ≡ false) → (later ≡ false → text_in now ≡ all_changed (text_in kept) changes) → IsEdit (text old.set) changes (text new.set)
     → IsLive new tables width base later now nothing held
-live-told old new tables width base behind later kept now s nothing held changes live none stays less before same edit = record {
+live-told old new tables width base behind later kept now s held changes live stays less before same edit = record {
   kept_at = stays width base live.kept_at;
   text_is = λ h. same h ∙ ap (λ t. all_changed t changes) (live.text_is (before h)) ∙ sym (changed-all changes (text old.set) (text new.set) edit).1;
-  unshown = λ h. nothing-window now nothing none;
-  at_hand = nothing-at_hand tables now nothing (stays width base live.kept_at).split none;
-  of_now = inl (nothing-window now nothing none);
+  unshown = λ h. nothing-window now;
+  at_hand = nothing-at_hand tables now (stays width base live.kept_at).split;
+  of_now = inl (nothing-window now);
   held_is = omega (arith, less, live.held_is);
   held_few = live.held_few;
 }
 
 -- the paragraphs are behind their desk
-pub live-behind : (desk : Desk) (tables : TableValues) (width : ℕ) (base : Base) (kept : KeptText) (nothing : Shown) (held : ℕ)
-    → IsKeptAt tables width base kept → nothing ≡ record { first = 0; skip = 0; count = 0; number = 0 } → weight_held kept ≤ held → held ≤ 900_000_000_000_000
+pub live-behind : (desk : Desk) (tables : TableValues) (width : ℕ) (base : Base) (kept : KeptText) (held : ℕ)
+    → IsKeptAt tables width base kept → weight_held kept ≤ held → held ≤ 900_000_000_000_000
     → IsLive desk tables width base true kept nothing held
-live-behind desk tables width base kept nothing held at none less few = record {
+live-behind desk tables width base kept held at less few = record {
   kept_at = at;
   text_is = λ h. cc;
-  unshown = λ h. nothing-window kept nothing none;
-  at_hand = nothing-at_hand tables kept nothing at.split none;
-  of_now = inl (nothing-window kept nothing none);
+  unshown = λ h. nothing-window kept;
+  at_hand = nothing-at_hand tables kept at.split;
+  of_now = inl (nothing-window kept);
   held_is = less;
   held_few = few;
 }
@@ -187,29 +188,29 @@ live-alike old new tables width base behind kept s held live same = record {
 }
 
 -- nothing is kept any more, and the width or the base may be another
-pub live-turned : (desk : Desk) (tables : TableValues) (width : ℕ) (base : Base) (behind : Bool) (kept now : KeptText) (s nothing : Shown) (held wider : ℕ) (turned : Base)
-    → IsLive desk tables width base behind kept s held → 2 ≤ wider → wider ≤ 500 → nothing ≡ record { first = 0; skip = 0; count = 0; number = 0 }
+pub live-turned : (desk : Desk) (tables : TableValues) (width : ℕ) (base : Base) (behind : Bool) (kept now : KeptText) (s : Shown) (held wider : ℕ) (turned : Base)
+    → IsLive desk tables width base behind kept s held → 2 ≤ wider → wider ≤ 500
     → paragraphs_in now ≡ paragraphs_in kept → All (IsLaid tables wider turned) now → weight_held now ≡ 0 → IsLive desk tables wider turned behind now nothing 0
-live-turned desk tables width base behind kept now s nothing held wider turned live least most none same laid empty = record {
+live-turned desk tables width base behind kept now s held wider turned live least most same laid empty = record {
   kept_at = record { at_least = least; at_most = most; split = subst (IsSplit tables) (sym same) live.kept_at.split; laid = laid };
   text_is = λ h. ap concat same ∙ live.text_is h;
-  unshown = λ h. nothing-window now nothing none;
-  at_hand = nothing-at_hand tables now nothing (subst (IsSplit tables) (sym same) live.kept_at.split) none;
-  of_now = inl (nothing-window now nothing none);
+  unshown = λ h. nothing-window now;
+  at_hand = nothing-at_hand tables now (subst (IsSplit tables) (sym same) live.kept_at.split);
+  of_now = inl (nothing-window now);
   held_is = omega (arith, empty);
   held_few = omega arith;
 }
 
 -- the paragraphs are the desk's, nothing is kept of them, and nothing is shown
-pub live-bare : (desk : Desk) (tables : TableValues) (width : ℕ) (base : Base) (kept now : KeptText) (nothing : Shown) → IsKeptAt tables width base kept → text_in kept ≡ text desk.set
-    → nothing ≡ record { first = 0; skip = 0; count = 0; number = 0 } → paragraphs_in now ≡ paragraphs_in kept → All (IsLaid tables width base) now → weight_held now ≡ 0
+pub live-bare : (desk : Desk) (tables : TableValues) (width : ℕ) (base : Base) (kept now : KeptText) → IsKeptAt tables width base kept → text_in kept ≡ text desk.set
+    → paragraphs_in now ≡ paragraphs_in kept → All (IsLaid tables width base) now → weight_held now ≡ 0
     → IsLive desk tables width base false now nothing 0
-live-bare desk tables width base kept now nothing at is none same laid empty = record {
+live-bare desk tables width base kept now at is same laid empty = record {
   kept_at = record { at_least = at.at_least; at_most = at.at_most; split = subst (IsSplit tables) (sym same) at.split; laid = laid };
   text_is = λ h. ap concat same ∙ is;
   unshown = λ h. absurd (both_ways false refl h);
-  at_hand = nothing-at_hand tables now nothing (subst (IsSplit tables) (sym same) at.split) none;
-  of_now = inl (nothing-window now nothing none);
+  at_hand = nothing-at_hand tables now (subst (IsSplit tables) (sym same) at.split);
+  of_now = inl (nothing-window now);
   held_is = omega (arith, empty);
   held_few = omega arith;
 }

@@ -163,7 +163,7 @@ impl Document {
             base,
             buffer,
             behind: true,
-            shown: Shown::nothing(),
+            shown: Shown::NOTHING,
             laid: 0,
             held: 0,
             most: Most { rows: 0 },
@@ -294,7 +294,7 @@ impl Document {
             place,
             characters,
         );
-        self.shown = Shown::nothing();
+        self.shown = Shown::NOTHING;
         Ok(())
     }
 
@@ -330,7 +330,7 @@ impl Document {
     {
         self.desk.erase_range(from, to, made)?;
         self.behind = follow(&self.tables, &mut self.buffer, self.behind, from, to, "");
-        self.shown = Shown::nothing();
+        self.shown = Shown::NOTHING;
         Ok(())
     }
 
@@ -376,7 +376,7 @@ impl Document {
             to,
             characters,
         );
-        self.shown = Shown::nothing();
+        self.shown = Shown::NOTHING;
         Ok(())
     }
 
@@ -404,7 +404,7 @@ impl Document {
         ensures drawn { IsDrawnAlike self.old self.new }
         ensures call { IsCall self.old (Shows place above below) (is_err result) self.new }
     {
-        self.shown = Shown::nothing();
+        self.shown = Shown::NOTHING;
         catch_up(
             self.alloc,
             &self.tables,

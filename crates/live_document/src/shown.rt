@@ -1,7 +1,5 @@
 //! Where a window stands in the rows that are kept.
 
-ghost use Rattle.std.specs.Prelude.{◌≡◌};
-
 /// Where a window stands in the rows that are kept.
 #[derive(Clone, Copy)]
 pub struct Shown {
@@ -17,14 +15,10 @@ pub struct Shown {
 
 impl Shown {
     /// Nothing is shown.
-    pub fn nothing() -> Shown
-        ensures { result ≡ record { first = 0; skip = 0; count = 0; number = 0 } }
-    {
-        Shown {
-            first: 0,
-            skip: 0,
-            count: 0,
-            number: 0,
-        }
-    }
+    pub const NOTHING: Shown = Shown {
+        first: 0,
+        skip: 0,
+        count: 0,
+        number: 0,
+    };
 }

@@ -27,7 +27,7 @@ impl Document {
         forget_rows(&mut self.buffer);
         self.held = 0;
         self.width = width;
-        self.shown = Shown::nothing();
+        self.shown = Shown::NOTHING;
     }
 
     /// Draws at another base direction from now on. Then nothing is shown.
@@ -45,7 +45,7 @@ impl Document {
         forget_rows(&mut self.buffer);
         self.held = 0;
         self.base = base;
-        self.shown = Shown::nothing();
+        self.shown = Shown::NOTHING;
     }
 
     /// Keeps rows from now on in the memory that this many take (at most 1,000,000), or those of four windows where that is more,

@@ -167,7 +167,7 @@ impl Document {
         ensures paragraphs { self.new.paragraphs ≡ self.old.paragraphs }
         ensures laid { self.new.laid ≡ self.old.laid }
     {
-        self.shown = Shown::nothing();
+        self.shown = Shown::NOTHING;
         catch_up(
             self.alloc,
             &self.tables,

@@ -76,7 +76,7 @@ impl Document {
             self.behind,
             &changes[told..],
         );
-        self.shown = Shown::nothing();
+        self.shown = Shown::NOTHING;
         Ok(taken)
     }
 
@@ -97,7 +97,7 @@ impl Document {
     {
         let taken = self.desk.take(op)?;
         self.behind = true;
-        self.shown = Shown::nothing();
+        self.shown = Shown::NOTHING;
         Ok(taken)
     }
 
@@ -129,7 +129,7 @@ impl Document {
             .is_err()
         {
             self.behind = true;
-            self.shown = Shown::nothing();
+            self.shown = Shown::NOTHING;
             return self.desk.merge(other);
         }
         self.merge_telling(other, &mut changes)
@@ -172,7 +172,7 @@ impl Document {
             self.behind,
             &changes[told..],
         );
-        self.shown = Shown::nothing();
+        self.shown = Shown::NOTHING;
         outcome
     }
 }

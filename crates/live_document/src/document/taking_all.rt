@@ -57,7 +57,7 @@ impl Document {
         if outcome.taken == 0 {
             return outcome;
         }
-        self.shown = Shown::nothing();
+        self.shown = Shown::NOTHING;
         if !outcome.told {
             changes.truncate(told);
             self.behind = true;

@@ -39,7 +39,7 @@ impl Document {
     {
         let op = self.desk.type_char(place, ch)?;
         self.behind = follow_typed(&self.tables, &mut self.buffer, self.behind, place, ch);
-        self.shown = Shown::nothing();
+        self.shown = Shown::NOTHING;
         Ok(op)
     }
 
@@ -70,7 +70,7 @@ impl Document {
             place + 1,
             "",
         );
-        self.shown = Shown::nothing();
+        self.shown = Shown::NOTHING;
         Ok(op)
     }
 }

@@ -16,11 +16,10 @@ pub invariant_of-self-2 : goal.invariant_of-self-2
 invariant_of-self-2 c =
     let i = c.self.inside in
     let f = c.follow-self-inside in
-    let n = c.nothing-self-inside in
     let place = c.args.place in
     let next : suc place ≡ place + 1 = omega arith in
-    live-followed i.desk c.erase_at.new.self i.tables.value i.width i.base i.behind f.result i.buffer f.new.buffer i.shown n.result i.held place (place + 1) []
-    c.self.invariant n.ensures (subst (λ (tables : TableValues). StaysKept tables i.buffer f.new.buffer) c.deref.ensures f.ensures.kept) f.ensures.held f.ensures.before
+    live-followed i.desk c.erase_at.new.self i.tables.value i.width i.base i.behind f.result i.buffer f.new.buffer i.shown i.held place (place + 1) []
+    c.self.invariant (subst (λ (tables : TableValues). StaysKept tables i.buffer f.new.buffer) c.deref.ensures f.ensures.kept) f.ensures.held f.ensures.before
     (λ made. f.ensures.text made ∙ ap (replaced (text_in i.buffer) place (place + 1)) chars-nil)
     (c.in_ok-op.ensures.op.text_is ∙ ap (λ k. take place (text i.desk.set) ++ drop k (text i.desk.set)) next)
 

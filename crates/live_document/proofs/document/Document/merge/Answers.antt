@@ -10,8 +10,7 @@ use Rattle.live_document.proofs.document.Document.merge.Goals as goal
 pub invariant_of-self : goal.invariant_of-self
 invariant_of-self c =
     let i = c.self.inside in
-    let n = c.nothing-self-inside in
-    live-behind c.merge.new.self i.tables.value i.width i.base i.buffer n.result i.held c.self.invariant.kept_at n.ensures c.self.invariant.held_is c.self.invariant.held_few
+    live-behind c.merge.new.self i.tables.value i.width i.base i.buffer i.held c.self.invariant.kept_at c.self.invariant.held_is c.self.invariant.held_few
 
 pub returns-then-is_err-clause-kept : goal.returns-then-is_err-clause-kept
 returns-then-is_err-clause-kept c = let i = c.self.inside in inl (bare-behind i.tables.value c.merge.new.self.set i.buffer)

@@ -27,13 +27,12 @@ invariant_of-self c =
     let i = c.self.inside in
     let t = c.merge_telling-outcome in
     let f = c.follow_all-self-inside in
-    let n = c.nothing-self-inside in
     let all = c.deref-2.result.now in
     let count : c.len-told.result ≡ length c.args.changes.now.items = omega (arith, c.len-told.ensures) in
     let told = told-behind c.args.changes.now.items t.new.changes.items all c.len-told.result count c.deref-2.ensures.value in
     let edit = told-edit c.told_changes.ensures.change i.desk.set t.new.self.set c.args.changes.now.items t.new.changes.items _ told t.ensures.told in
-    live-told i.desk t.new.self i.tables.value i.width i.base i.behind f.result i.buffer f.new.buffer i.shown n.result i.held _
-    c.self.invariant n.ensures (subst (λ (tables : TableValues). StaysKept tables i.buffer f.new.buffer) c.deref.ensures f.ensures.kept) f.ensures.held f.ensures.before f.ensures.text edit
+    live-told i.desk t.new.self i.tables.value i.width i.base i.behind f.result i.buffer f.new.buffer i.shown i.held _
+    c.self.invariant (subst (λ (tables : TableValues). StaysKept tables i.buffer f.new.buffer) c.deref.ensures f.ensures.kept) f.ensures.held f.ensures.before f.ensures.text edit
 
 pub returns-clause-fault : goal.returns-clause-fault
 returns-clause-fault c =

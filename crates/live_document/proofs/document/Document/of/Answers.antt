@@ -13,6 +13,6 @@ invariant_of-result-2 c =
     let width = c.args.width in
     let base = c.args.base in
     let held = ap weight_held c.in_ok-buffer.ensures.nothing ∙ held-anew (paragraphs_in kept) in
-    live-behind c.args.desk c.args.tables.value width base kept c.nothing.result 0
+    live-behind c.args.desk c.args.tables.value width base kept 0
     (subst (λ (tables : TableValues). IsKeptAt tables width base kept) c.deref.ensures (c.in_ok-buffer.ensures.kept width base c.requires.at_least c.requires.at_most))
-    c.nothing.ensures (omega (arith, held)) (omega arith)
+    (omega (arith, held)) (omega arith)

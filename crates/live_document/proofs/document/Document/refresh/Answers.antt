@@ -10,7 +10,7 @@ use Rattle.text_buffer.specs.Buffers.{text_in}
 use Rattle.live_document.specs.Documents.{LiveDocument, whole_grid}
 use Rattle.live_document.specs.Keeping.{IsKeptAt}
 use Rattle.live_document.proofs.Cost.{live-caught as paragraphs-caught}
-use Rattle.live_document.proofs.Followed.{live-caught, nothing-at_hand, nothing-window}
+use Rattle.live_document.proofs.Followed.{live-caught, nothing, nothing-at_hand, nothing-window}
 use Rattle.live_document.proofs.document.Document.refresh.Goals as goal
 
 pub returns-clause-whole : goal.returns-clause-whole
@@ -41,9 +41,8 @@ pub invariant_of-self-2 : goal.invariant_of-self-2
 invariant_of-self-2 c =
     let i = c.self.inside in
     let now = c.catch_up.new.buffer in
-    let n = c.nothing-self-inside in
     let before = subst (λ (tables : TableValues). IsKeptAt tables i.width i.base i.buffer) (sym c.deref.ensures) c.self.invariant.kept_at in
     let at = subst (λ (tables : TableValues). IsKeptAt tables i.width i.base now) c.deref.ensures (c.in_ok-catch_up.ensures.kept i.width i.base before) in
-    live-caught i.desk i.tables.value i.width i.base now n.result i.held at
-    c.in_ok-catch_up.ensures.text (nothing-at_hand i.tables.value now n.result at.split n.ensures) (inl (nothing-window now n.result n.ensures))
+    live-caught i.desk i.tables.value i.width i.base now nothing i.held at
+    c.in_ok-catch_up.ensures.text (nothing-at_hand i.tables.value now at.split) (inl (nothing-window now))
     (omega (arith, c.in_ok-catch_up.ensures.held, c.self.invariant.held_is)) c.self.invariant.held_few

@@ -15,9 +15,8 @@ pub invariant_of-self-2 : goal.invariant_of-self-2
 invariant_of-self-2 c =
     let i = c.self.inside in
     let f = c.follow-self-inside in
-    let n = c.nothing-self-inside in
-    live-followed i.desk c.replace.new.self i.tables.value i.width i.base i.behind f.result i.buffer f.new.buffer i.shown n.result i.held c.args.from c.args.to (chars c.args.characters.now)
-    c.self.invariant n.ensures (subst (λ (tables : TableValues). StaysKept tables i.buffer f.new.buffer) c.deref.ensures f.ensures.kept) f.ensures.held f.ensures.before f.ensures.text c.in_ok-replace.ensures.replaced
+    live-followed i.desk c.replace.new.self i.tables.value i.width i.base i.behind f.result i.buffer f.new.buffer i.shown i.held c.args.from c.args.to (chars c.args.characters.now)
+    c.self.invariant (subst (λ (tables : TableValues). StaysKept tables i.buffer f.new.buffer) c.deref.ensures f.ensures.kept) f.ensures.held f.ensures.before f.ensures.text c.in_ok-replace.ensures.replaced
 
 pub returns-clause-kept : goal.returns-clause-kept
 returns-clause-kept c =

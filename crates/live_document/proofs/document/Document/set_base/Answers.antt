@@ -6,6 +6,5 @@ pub invariant_of-self : goal.invariant_of-self
 invariant_of-self c =
     let i = c.self.inside in
     let f = c.forget_rows in
-    let n = c.nothing-self-inside in
-    live-turned i.desk i.tables.value i.width i.base i.behind i.buffer f.new.buffer i.shown n.result i.held i.width c.args.base c.self.invariant c.self.invariant.kept_at.at_least c.self.invariant.kept_at.at_most n.ensures f.ensures.paragraphs
+    live-turned i.desk i.tables.value i.width i.base i.behind i.buffer f.new.buffer i.shown i.held i.width c.args.base c.self.invariant c.self.invariant.kept_at.at_least c.self.invariant.kept_at.at_most f.ensures.paragraphs
     (f.ensures.none i.tables.value i.width c.args.base) f.ensures.held

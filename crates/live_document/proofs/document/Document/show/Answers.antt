@@ -65,9 +65,8 @@ invariant_of-self-in-Err c =
     let i = c.self.inside in
     let now = c.lay_window_out.new.buffer in
     let f = c.forget_rows in
-    let n = c.nothing-self-inside in
     let at = subst (λ (tables : TableValues). IsKeptAt tables i.width i.base now) c.deref-2.ensures c.lay_window_out.ensures.kept in
-    live-bare i.desk i.tables.value i.width i.base now f.new.buffer n.result at (ap concat c.lay_window_out.ensures.paragraphs ∙ c.in_ok-catch_up.ensures.text) n.ensures f.ensures.paragraphs
+    live-bare i.desk i.tables.value i.width i.base now f.new.buffer at (ap concat c.lay_window_out.ensures.paragraphs ∙ c.in_ok-catch_up.ensures.text) f.ensures.paragraphs
     (f.ensures.none i.tables.value i.width i.base) f.ensures.held
 
 pub returns-in_err-catch_up-clause-forgotten : goal.returns-in_err-catch_up-clause-forgotten

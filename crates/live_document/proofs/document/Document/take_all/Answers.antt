@@ -28,13 +28,12 @@ invariant_of-self-2 c =
     let i = c.self.inside in
     let t = c.take_each-outcome in
     let f = c.follow_all-self-inside in
-    let n = c.nothing-self-inside in
     let count : c.len-told.result ≡ length c.args.changes.now.items = omega (arith, c.len-told.ensures) in
     let told = t.ensures.told (not-false t.result.told c.if-not-outcome.false) in
     let edit = edit_of_slice c.told_changes.ensures.in_turn i.desk t.new.desk (take t.result.taken c.args.ops.now) c.args.changes.now.items t.new.changes.items
     c.deref-2.result.now c.len-told.result count c.deref-2.ensures.value t.ensures.taken.set told in
-    live-told i.desk t.new.desk i.tables.value i.width i.base i.behind f.result i.buffer f.new.buffer i.shown n.result i.held _
-    c.self.invariant n.ensures (subst (λ (tables : TableValues). StaysKept tables i.buffer f.new.buffer) c.deref.ensures f.ensures.kept) f.ensures.held f.ensures.before f.ensures.text edit
+    live-told i.desk t.new.desk i.tables.value i.width i.base i.behind f.result i.buffer f.new.buffer i.shown i.held _
+    c.self.invariant (subst (λ (tables : TableValues). StaysKept tables i.buffer f.new.buffer) c.deref.ensures f.ensures.kept) f.ensures.held f.ensures.before f.ensures.text edit
 
 pub returns-clause-edit : goal.returns-clause-edit
 returns-clause-edit c = λ is.

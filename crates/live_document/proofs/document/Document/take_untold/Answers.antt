@@ -6,8 +6,7 @@ use Rattle.live_document.proofs.document.Document.take_untold.Goals as goal
 pub invariant_of-self-2 : goal.invariant_of-self-2
 invariant_of-self-2 c =
     let i = c.self.inside in
-    let n = c.nothing-self-inside in
-    live-behind c.take.new.self i.tables.value i.width i.base i.buffer n.result i.held c.self.invariant.kept_at n.ensures c.self.invariant.held_is c.self.invariant.held_few
+    live-behind c.take.new.self i.tables.value i.width i.base i.buffer i.held c.self.invariant.kept_at c.self.invariant.held_is c.self.invariant.held_few
 
 pub returns-clause-kept : goal.returns-clause-kept
 returns-clause-kept c = let i = c.self.inside in bare-behind i.tables.value c.take.new.self.set i.buffer

@@ -15,9 +15,8 @@ pub invariant_of-self-2 : goal.invariant_of-self-2
 invariant_of-self-2 c =
     let i = c.self.inside in
     let f = c.follow-self-inside in
-    let n = c.nothing-self-inside in
-    live-followed i.desk c.type_text.new.self i.tables.value i.width i.base i.behind f.result i.buffer f.new.buffer i.shown n.result i.held c.args.place c.args.place (chars c.args.characters.now)
-    c.self.invariant n.ensures (subst (λ (tables : TableValues). StaysKept tables i.buffer f.new.buffer) c.deref.ensures f.ensures.kept) f.ensures.held f.ensures.before f.ensures.text c.in_ok-type_text.ensures.typed
+    live-followed i.desk c.type_text.new.self i.tables.value i.width i.base i.behind f.result i.buffer f.new.buffer i.shown i.held c.args.place c.args.place (chars c.args.characters.now)
+    c.self.invariant (subst (λ (tables : TableValues). StaysKept tables i.buffer f.new.buffer) c.deref.ensures f.ensures.kept) f.ensures.held f.ensures.before f.ensures.text c.in_ok-type_text.ensures.typed
 
 pub returns-clause-well_formed : goal.returns-clause-well_formed
 returns-clause-well_formed c =
