@@ -123,17 +123,10 @@ fn take_next(
     match desk.take_telling(op, changes) {
         Ok(taken) => Ok(taken),
         // It is refused, or there was no memory for what is told: the desk may need none.
-        Err(_) => take_untold(desk, op, told),
+        Err(_) => {
+            let taken = desk.take(op)?;
+            *told = false;
+            Ok(taken)
+        }
     }
-}
-
-fn take_untold(desk: &mut Desk, op: &Op, told: &mut bool) -> Result<Taken, TakeFault>
-    ensures take { IsTake desk.old op.now desk.new result }
-    ensures told { told.new ≡ true → desk.new ≡ desk.old }
-    ensures before { told.new ≡ true → told.old ≡ true }
-    ensures same { OnErr result (told.new ≡ told.old) }
-{
-    let taken = desk.take(op)?;
-    *told = false;
-    Ok(taken)
 }
