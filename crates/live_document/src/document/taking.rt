@@ -7,7 +7,7 @@ ghost use Rattle.desk_replica.specs.declared.answer.TakeFault.{TakeFault as Faul
 ghost use Rattle.desk_replica.specs.Reply.{IsTaken, IsRefused, IsRefusal, IsHiding};
 ghost use Rattle.desk_replica.specs.Merging.{IsMergeRefusal, IsMergeRefused};
 ghost use Rattle.desk_replica.specs.Telling.{IsTold, IsUntaken, TellsAtMost, waiting_count};
-ghost use Rattle.live_document.specs.Cost.{IsBare, KeepsUnchanged, KeepsUntouched};
+ghost use Rattle.live_document.specs.Cost.{KeepsUnchanged, KeepsUntouched};
 ghost use Rattle.live_document.specs.Documents.{IsDrawnAlike};
 ghost use Rattle.live_document.specs.Runs.{Takes, Merges, IsCall};
 ghost use Rattle.live_document.specs.Showing.{no_window};
@@ -41,7 +41,12 @@ impl Document {
         match self.take_telling(op, &mut changes) {
             Ok(taken) => Ok(taken),
             // It is refused, or there was no memory for what is told: the desk may need none.
-            Err(_) => self.take_untold(op),
+            Err(_) => {
+                let taken = self.desk.take(op)?;
+                self.behind = true;
+                self.shown = Shown::NOTHING;
+                Ok(taken)
+            }
         }
     }
 
@@ -76,27 +81,6 @@ impl Document {
             self.behind,
             &changes[told..],
         );
-        self.shown = Shown::NOTHING;
-        Ok(taken)
-    }
-
-    /// Takes an operation without telling what it changed: the paragraphs are behind then.
-    fn take_untold(&mut self, op: &Op) -> Result<Taken, TakeFault>
-        ensures answer { MatchResult result (IsTaken self.old.desk.set op.now) (IsRefused self.old.desk.set op.now) }
-        ensures accepted { OnOk result ((fault : Fault) → ¬ (IsRefusal self.old.desk.set op.now fault)) }
-        ensures ok { OnOk result (self.new.desk.set ≡ with_operation self.old.desk.set op.now) }
-        ensures limited { size self.new.desk.set ≤ 1_000_000 }
-        ensures err { OnErr result (self.new ≡ self.old) }
-        ensures site { self.new.desk.site ≡ self.old.desk.site }
-        ensures spare { size self.old.desk.set + self.old.desk.spare ≤ size self.new.desk.set + self.new.desk.spare }
-        ensures unpaid { IfErr result (λ fault. fault ≡ TakeFault.Memory → self.old.desk.spare ≡ 0) }
-        ensures drawn { IsDrawnAlike self.old self.new }
-        ensures window { OnOk result (self.new.window ≡ no_window) }
-        ensures kept { OnOk result (IsBare self.new.paragraphs) }
-        ensures laid { self.new.laid ≡ self.old.laid }
-    {
-        let taken = self.desk.take(op)?;
-        self.behind = true;
         self.shown = Shown::NOTHING;
         Ok(taken)
     }
