@@ -21,10 +21,6 @@ use Rattle.c_answers.specs.Copying.{IsCopied}
 use Rattle.c_desks.specs.Desks.{replaced_size, HasRoomFor, IsRefusedExchange, IsUnreplaced}
 use Rattle.c_desks.specs.Faults.{type_number}
 
-pub frame_most : (op : OpView) → length (frame op) ≤ 19
-frame_most (Insert id parent ch) = omega arith
-frame_most (Erase target) = omega arith
-
 -- the message of one operation
 pub one_most : (op : OpView) → length (spelling (op ∷ [])) ≤ 24
 one_most (Insert id parent ch) = omega arith
@@ -85,14 +81,6 @@ replaced_count s site from n chs within =
       length-typed chs (next_id t site) (parent_at (visible_ids t) from),
       gone,
     )
-
--- a message that fits is written whole
-pub copied_whole : (bytes before after : List ℕ) (told answer : ℕ) → length bytes ≤ length before → IsCopied bytes before after told answer → IsCopied bytes before after told 0
-copied_whole bytes before after told answer room copied = record {
-  told = copied.told;
-  fits = λ _. (refl, (copied.fits room).1);
-  short = λ wrong. absurd (omega (arith, wrong, room));
-}
 
 -- the message of a replacement fits where there is room for its size
 pub replaced_fits : (s : OperationSet) (site from to : ℕ) (chs : List ℕ) (room : ℕ) → from ≤ to → to ≤ length (visible s) → replaced_size (to - from) (length chs) ≤ room
