@@ -26,13 +26,6 @@ impl Model for DeskHandle {
 }
 
 impl DeskHandle {
-    /// A handle that holds nothing.
-    pub fn empty() -> DeskHandle
-        ensures { result.held ≡ None }
-    {
-        DeskHandle::of(NullableBox::none())
-    }
-
     /// A handle of what is at a pointer.
     fn of(owned: NullableBox<Desk>) -> DeskHandle
         ensures { result.held ≡ owned.held }
@@ -58,7 +51,7 @@ impl DeskHandle {
         ensures taken { MatchOption result (self.old.held ≡ None) (λ b. self.old.held ≡ Some b.value) }
         ensures empty { self.new.held ≡ None }
     {
-        mem::replace(self, DeskHandle::empty())
+        mem::replace(self, DeskHandle::of(NullableBox::none()))
             .into_owned()
             .into_box(alloc)
     }

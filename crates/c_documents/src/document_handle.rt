@@ -27,13 +27,6 @@ impl Model for DocumentHandle {
 }
 
 impl DocumentHandle {
-    /// A handle that holds nothing.
-    pub fn empty() -> DocumentHandle
-        ensures { result.held ≡ None }
-    {
-        DocumentHandle::of(NullableBox::none())
-    }
-
     /// A handle of what is at a pointer.
     fn of(owned: NullableBox<ToldDocument>) -> DocumentHandle
         ensures { result.held ≡ owned.held }
@@ -59,7 +52,7 @@ impl DocumentHandle {
         ensures taken { MatchOption result (self.old.held ≡ None) (λ b. self.old.held ≡ Some b.value) }
         ensures empty { self.new.held ≡ None }
     {
-        mem::replace(self, DocumentHandle::empty())
+        mem::replace(self, DocumentHandle::of(NullableBox::none()))
             .into_owned()
             .into_box(alloc)
     }

@@ -25,13 +25,6 @@ impl Model for PictureHandle {
 }
 
 impl PictureHandle {
-    /// A handle that holds nothing.
-    pub fn empty() -> PictureHandle
-        ensures { result.held ≡ None }
-    {
-        PictureHandle::of(NullableBox::none())
-    }
-
     /// A handle of what is at a pointer.
     fn of(owned: NullableBox<Picture>) -> PictureHandle
         ensures { result.held ≡ owned.held }
@@ -57,7 +50,7 @@ impl PictureHandle {
         ensures taken { MatchOption result (self.old.held ≡ None) (λ b. self.old.held ≡ Some b.value) }
         ensures empty { self.new.held ≡ None }
     {
-        mem::replace(self, PictureHandle::empty())
+        mem::replace(self, PictureHandle::of(NullableBox::none()))
             .into_owned()
             .into_box(alloc)
     }

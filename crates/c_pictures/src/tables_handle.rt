@@ -25,13 +25,6 @@ impl Model for TablesHandle {
 }
 
 impl TablesHandle {
-    /// A handle that holds nothing.
-    pub fn empty() -> TablesHandle
-        ensures { result.held ≡ None }
-    {
-        TablesHandle::of(NullableBox::none())
-    }
-
     /// A handle of what is at a pointer.
     fn of(owned: NullableBox<SharedTables>) -> TablesHandle
         ensures { result.held ≡ owned.held }
@@ -57,7 +50,7 @@ impl TablesHandle {
         ensures taken { MatchOption result (self.old.held ≡ None) (λ b. self.old.held ≡ Some b.value) }
         ensures empty { self.new.held ≡ None }
     {
-        mem::replace(self, TablesHandle::empty())
+        mem::replace(self, TablesHandle::of(NullableBox::none()))
             .into_owned()
             .into_box(alloc)
     }
