@@ -11,8 +11,8 @@ ghost use Rattle.c_answers.specs.Numbers.{AreNumbersWritten};
 
 use c_answers::EMPTY_HANDLE;
 use c_pictures::{
-    CaretNumbers, PictureHandle, caret_numbers, caret_of, no_caret, tell_caret, tell_caret_under,
-    tell_down, tell_left, tell_right, tell_up,
+    CaretNumbers, PictureHandle, tell_caret, tell_caret_under, tell_down, tell_left, tell_right,
+    tell_up,
 };
 use std::alloc::Global;
 
@@ -29,7 +29,7 @@ pub extern "C" fn bidigrid_caret_at(
     ensures empty { picture.old.held ≡ None → (result ≡ 101) × (caret.new ≡ no_caret) }
 {
     let Some(held) = picture.take(alloc) else {
-        *caret = no_caret();
+        *caret = CaretNumbers::NONE;
         return EMPTY_HANDLE;
     };
     let answer = tell_caret(&held, place, caret);
@@ -51,7 +51,7 @@ pub extern "C" fn bidigrid_caret_under(
     ensures empty { picture.old.held ≡ None → (result ≡ 101) × (caret.new ≡ no_caret) }
 {
     let Some(held) = picture.take(alloc) else {
-        *caret = no_caret();
+        *caret = CaretNumbers::NONE;
         return EMPTY_HANDLE;
     };
     let answer = tell_caret_under(&held, row, column, caret);

@@ -8,7 +8,7 @@ ghost use Rattle.c_desks.specs.Numbers.{no_identifier};
 ghost use Rattle.c_desks.specs.Desks.{IsIdentifierWritten, IsPlaceWritten, IsSaved};
 
 use c_answers::EMPTY_HANDLE;
-use c_desks::{IdentifierNumbers, no_identifier, tell_file, tell_length, tell_place_of};
+use c_desks::{IdentifierNumbers, tell_file, tell_length, tell_place_of};
 use c_documents::{DocumentHandle, tell_id_in, tell_text_of};
 use std::alloc::Global;
 
@@ -67,7 +67,7 @@ pub extern "C" fn bidigrid_document_id_at(
     ensures empty { document.old.held ≡ None → (result ≡ 101) × (id.new ≡ no_identifier) }
 {
     let Some(mut held) = document.take(alloc) else {
-        *id = no_identifier();
+        *id = IdentifierNumbers::NONE;
         return EMPTY_HANDLE;
     };
     let answer = tell_id_in(&mut held.document, place, id);

@@ -8,8 +8,8 @@ ghost use Rattle.c_answers.specs.Copying.{AreListed};
 
 use c_answers::{EMPTY_HANDLE, OK};
 use c_pictures::{
-    EntryNumbers, PictureHandle, RowNumbers, TablesHandle, draw_text, entry_numbers, no_entry,
-    no_row, row_numbers, tell_entries, tell_entry, tell_row, tell_rows,
+    EntryNumbers, PictureHandle, RowNumbers, TablesHandle, draw_text, tell_entries, tell_entry,
+    tell_row, tell_rows,
 };
 use std::alloc::Global;
 
@@ -87,7 +87,7 @@ pub extern "C" fn bidigrid_picture_row(
     ensures empty { picture.old.held ≡ None → (result ≡ 101) × (out.new ≡ no_row) }
 {
     let Some(held) = picture.take(alloc) else {
-        *out = no_row();
+        *out = RowNumbers::NONE;
         return EMPTY_HANDLE;
     };
     let answer = tell_row(&held, number, out);
@@ -109,7 +109,7 @@ pub extern "C" fn bidigrid_picture_entry(
     ensures empty { picture.old.held ≡ None → (result ≡ 101) × (out.new ≡ no_entry) }
 {
     let Some(held) = picture.take(alloc) else {
-        *out = no_entry();
+        *out = EntryNumbers::NONE;
         return EMPTY_HANDLE;
     };
     let answer = tell_entry(&held, row, number, out);

@@ -9,8 +9,7 @@ ghost use Rattle.c_desks.specs.Desks.{IsIdentifierWritten, IsPlaceWritten, IsSav
 
 use c_answers::EMPTY_HANDLE;
 use c_desks::{
-    DeskHandle, IdentifierNumbers, no_identifier, tell_file, tell_id_at, tell_length,
-    tell_place_of, tell_text,
+    DeskHandle, IdentifierNumbers, tell_file, tell_id_at, tell_length, tell_place_of, tell_text,
 };
 use std::alloc::Global;
 
@@ -69,7 +68,7 @@ pub extern "C" fn bidigrid_desk_id_at(
     ensures empty { desk.old.held ≡ None → (result ≡ 101) × (id.new ≡ no_identifier) }
 {
     let Some(mut held) = desk.take(alloc) else {
-        *id = no_identifier();
+        *id = IdentifierNumbers::NONE;
         return EMPTY_HANDLE;
     };
     let answer = tell_id_at(&mut held, place, id);

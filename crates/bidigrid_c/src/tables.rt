@@ -7,9 +7,7 @@ ghost use Rattle.c_pictures.specs.Files.{IsRefusedData, no_data_fault};
 ghost use Rattle.c_pictures.specs.Files.{tables_of_files, fault_of_files};
 
 use c_answers::{MEMORY, OK};
-use c_pictures::{
-    DataFault, DataFiles, TablesHandle, data_fault, data_number, load, no_data_fault,
-};
+use c_pictures::{DataFault, DataFiles, TablesHandle, data_fault, data_number, load};
 use std::alloc::Global;
 use ucd_files::Ucd;
 use unicode_data::{
@@ -41,7 +39,7 @@ pub extern "C" fn bidigrid_tables_new(
     match load(alloc, &ucd) {
         Ok(tables) => {
             out.put(alloc, tables);
-            *told = no_data_fault();
+            *told = DataFault::NONE;
             OK
         }
         Err(fault) => {

@@ -7,7 +7,7 @@ ghost use Rattle.c_pictures.specs.Numbers.{entry_numbers, no_row, row_numbers};
 
 use c_answers::EMPTY_HANDLE;
 use c_documents::{DocumentHandle, tell_entries, tell_row};
-use c_pictures::{EntryNumbers, RowNumbers, entry_numbers, no_row};
+use c_pictures::{EntryNumbers, RowNumbers};
 use std::alloc::Global;
 
 /// Writes what a row that is shown has, counted from 0 at the top.
@@ -23,7 +23,7 @@ pub extern "C" fn bidigrid_document_row(
     ensures empty { document.old.held ≡ None → (result ≡ 101) × (out.new ≡ no_row) }
 {
     let Some(held) = document.take(alloc) else {
-        *out = no_row();
+        *out = RowNumbers::NONE;
         return EMPTY_HANDLE;
     };
     let answer = tell_row(&held.document, number, out);

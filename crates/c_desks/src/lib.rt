@@ -19,7 +19,7 @@ pub use draft::{Draft, code_points, refusal_of};
 pub use fault::{take_number, type_number};
 pub use keystroke::{Keystroke, keystroke_of};
 pub use merging::{merge_from, merge_number};
-pub use numbers::{IdentifierNumbers, Taken, identifier_numbers, no_identifier, none_taken};
+pub use numbers::{IdentifierNumbers, Taken, identifier_numbers, none_taken};
 pub use reading::{tell_file, tell_id_at, tell_length, tell_place_of, tell_text};
 pub use replacing::replace_in;
 pub use taking::{read_message, take_in};

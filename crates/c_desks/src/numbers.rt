@@ -1,7 +1,7 @@
 //! The structs of numbers that C reads of a desk.
 
 ghost use Rattle.std.specs.Prelude.{◌≡◌};
-ghost use Rattle.c_desks.specs.Numbers.{no_identifier, none_taken};
+ghost use Rattle.c_desks.specs.Numbers.{none_taken};
 
 use bg_types::Id;
 
@@ -11,6 +11,14 @@ use bg_types::Id;
 pub struct IdentifierNumbers {
     pub counter: u32,
     pub site: u32,
+}
+
+impl IdentifierNumbers {
+    /// The numbers where there is no identifier.
+    pub const NONE: IdentifierNumbers = IdentifierNumbers {
+        counter: 0,
+        site: 0,
+    };
 }
 
 /// What became of a message: `bidigrid_taken` of the header.
@@ -30,16 +38,6 @@ pub fn identifier_numbers(id: Id) -> IdentifierNumbers
     IdentifierNumbers {
         counter: id.counter(),
         site: u32::from(id.site()),
-    }
-}
-
-/// The numbers where there is no identifier.
-pub fn no_identifier() -> IdentifierNumbers
-    ensures { result ≡ no_identifier }
-{
-    IdentifierNumbers {
-        counter: 0,
-        site: 0,
     }
 }
 

@@ -7,7 +7,7 @@ ghost use Rattle.c_desks.specs.Numbers.{no_identifier};
 ghost use Rattle.c_desks.specs.Desks.{IsIdentifierWritten, IsPlaceWritten, IsSaved};
 
 use crate::desk::{Desk, MOST_SITE};
-use crate::numbers::{IdentifierNumbers, identifier_numbers, no_identifier};
+use crate::numbers::{IdentifierNumbers, identifier_numbers};
 use bg_types::{Id, Memory};
 use c_answers::{BAD_IDENTIFIER, BAD_PLACE, MEMORY, NOT_PLACED, OK, copy_out};
 use op_codec::encode_file_v2;
@@ -46,7 +46,7 @@ pub fn tell_id_at(desk: &mut Desk, place: usize, id: &mut IdentifierNumbers) -> 
     ensures same { desk.new ≡ desk.old }
 {
     if place >= desk.len() {
-        *id = no_identifier();
+        *id = IdentifierNumbers::NONE;
         return BAD_PLACE;
     }
     *id = identifier_numbers(desk.id_at(place));

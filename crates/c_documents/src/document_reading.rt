@@ -7,7 +7,7 @@ ghost use Rattle.c_desks.specs.Numbers.{no_identifier};
 ghost use Rattle.c_desks.specs.Desks.{IsIdentifierWritten};
 
 use c_answers::{BAD_PLACE, OK, SHORT_BUFFER};
-use c_desks::{IdentifierNumbers, identifier_numbers, no_identifier, tell_text};
+use c_desks::{IdentifierNumbers, identifier_numbers, tell_text};
 use live_document::Document;
 
 /// Writes a document's text, unless its size is known to be more than there is room for.
@@ -30,7 +30,7 @@ pub fn tell_id_in(document: &mut Document, place: usize, id: &mut IdentifierNumb
     ensures same { document.new ≡ document.old }
 {
     if place >= document.len() {
-        *id = no_identifier();
+        *id = IdentifierNumbers::NONE;
         return BAD_PLACE;
     }
     *id = identifier_numbers(document.id_at(place));

@@ -7,7 +7,7 @@ ghost use Rattle.c_pictures.specs.Numbers.{entry_numbers, no_row, row_numbers};
 
 use crate::numbers::window_row_numbers;
 use c_answers::{BAD_ROW, OK, SHORT_BUFFER};
-use c_pictures::{EntryNumbers, RowNumbers, entry_numbers, no_row};
+use c_pictures::{EntryNumbers, RowNumbers, entry_numbers};
 use live_document::{Document, WindowRow};
 
 /// Writes what a row that is shown has, counted from 0 at the top.
@@ -20,7 +20,7 @@ pub fn tell_row(document: &Document, number: usize, out: &mut RowNumbers) -> u32
             OK
         }
         None => {
-            *out = no_row();
+            *out = RowNumbers::NONE;
             BAD_ROW
         }
     }

@@ -8,7 +8,7 @@ ghost use Rattle.caret.specs.Places.{caret_at};
 ghost use Rattle.c_pictures.specs.Numbers.{caret_numbers, caret_of, no_caret};
 ghost use Rattle.c_answers.specs.Numbers.{AreNumbersWritten};
 
-use crate::numbers::{CaretNumbers, caret_numbers, caret_of, no_caret};
+use crate::numbers::{CaretNumbers, caret_numbers, caret_of};
 use c_answers::{BAD_CARET, BAD_PLACE, BAD_ROW, OK};
 use pictures::Picture;
 
@@ -17,7 +17,7 @@ pub fn tell_caret(picture: &Picture, place: usize, caret: &mut CaretNumbers) -> 
     ensures { AreNumbersWritten (place ≤ length (chars picture.now.text)) (caret_numbers (caret_at picture.now place)) no_caret 107 caret.new result }
 {
     if place > picture.len() {
-        *caret = no_caret();
+        *caret = CaretNumbers::NONE;
         return BAD_PLACE;
     }
     *caret = caret_numbers(picture.at_place(place));
@@ -34,7 +34,7 @@ pub fn tell_caret_under(
     ensures { AreNumbersWritten (row < length picture.now.rows) (caret_numbers (caret_under picture.now.rows row column)) no_caret 108 caret.new result }
 {
     if row >= picture.rows().len() {
-        *caret = no_caret();
+        *caret = CaretNumbers::NONE;
         return BAD_ROW;
     }
     *caret = caret_numbers(picture.at_column(row, column));

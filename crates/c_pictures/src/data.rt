@@ -1,7 +1,7 @@
 //! The data files that C hands in, and where one is faulty.
 
 ghost use Rattle.std.specs.Prelude.{◌≡◌, ◌<◌};
-ghost use Rattle.c_pictures.specs.Files.{data_number, data_fault, file_number, no_data_fault};
+ghost use Rattle.c_pictures.specs.Files.{data_number, data_fault, file_number};
 
 use c_answers::{DATA, MEMORY};
 use ucd_files::{UcdFault, UcdFile};
@@ -36,11 +36,9 @@ pub struct DataFault {
     pub file: u32,
 }
 
-/// Where no data file is faulty.
-pub fn no_data_fault() -> DataFault
-    ensures { result ≡ no_data_fault }
-{
-    DataFault { line: 0, file: 0 }
+impl DataFault {
+    /// Where no data file is faulty.
+    pub const NONE: DataFault = DataFault { line: 0, file: 0 };
 }
 
 /// Where a data file's fault is.
@@ -48,7 +46,7 @@ pub fn data_fault(fault: UcdFault) -> DataFault
     ensures { result ≡ data_fault fault }
 {
     match fault {
-        UcdFault::Memory => no_data_fault(),
+        UcdFault::Memory => DataFault::NONE,
         UcdFault::At { file, line, .. } => DataFault {
             line,
             file: file_number(file),

@@ -11,10 +11,9 @@ mod tables;
 mod tables_handle;
 
 pub use carets::{tell_caret, tell_caret_under, tell_down, tell_left, tell_right, tell_up};
-pub use data::{DataFault, DataFiles, data_fault, data_number, no_data_fault};
+pub use data::{DataFault, DataFiles, data_fault, data_number};
 pub use numbers::{
-    CaretNumbers, EntryNumbers, RowNumbers, caret_numbers, caret_of, entry_numbers, no_caret,
-    no_entry, no_row, row_numbers,
+    CaretNumbers, EntryNumbers, RowNumbers, caret_numbers, caret_of, entry_numbers, row_numbers,
 };
 pub use picture::{base_of, draw_text, tell_entries, tell_entry, tell_row, tell_rows, width_of};
 pub use picture_handle::PictureHandle;

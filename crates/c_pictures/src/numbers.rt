@@ -2,7 +2,7 @@
 
 ghost use Rattle.std.specs.Prelude.{◌≡◌};
 ghost use Rattle.caret.specs.Gaps.{gap_column};
-ghost use Rattle.c_pictures.specs.Numbers.{row_numbers, no_row, entry_numbers, no_entry, caret_numbers, no_caret, caret_of};
+ghost use Rattle.c_pictures.specs.Numbers.{row_numbers, entry_numbers, caret_numbers, caret_of};
 
 use caret::{Caret, gap_column};
 use cell_grid::{Entry, Row};
@@ -18,6 +18,17 @@ pub struct RowNumbers {
     pub level: u32,
 }
 
+impl RowNumbers {
+    /// The numbers where there is no row.
+    pub const NONE: RowNumbers = RowNumbers {
+        first_place: 0,
+        last_place: 0,
+        entries: 0,
+        column: 0,
+        level: 0,
+    };
+}
+
 /// An entry of a row: `bidigrid_entry` of the header.
 #[derive(Clone, Copy)]
 #[repr(C)]
@@ -31,6 +42,19 @@ pub struct EntryNumbers {
     pub columns: u32,
 }
 
+impl EntryNumbers {
+    /// The numbers where there is no entry.
+    pub const NONE: EntryNumbers = EntryNumbers {
+        first_byte: 0,
+        end_byte: 0,
+        first_place: 0,
+        end_place: 0,
+        column: 0,
+        level: 0,
+        columns: 0,
+    };
+}
+
 /// A caret: `bidigrid_caret` of the header.
 #[derive(Clone, Copy)]
 #[repr(C)]
@@ -38,6 +62,15 @@ pub struct CaretNumbers {
     pub row: usize,
     pub gap: usize,
     pub place: usize,
+}
+
+impl CaretNumbers {
+    /// The numbers where there is no caret.
+    pub const NONE: CaretNumbers = CaretNumbers {
+        row: 0,
+        gap: 0,
+        place: 0,
+    };
 }
 
 /// The numbers of a row.
@@ -50,19 +83,6 @@ pub fn row_numbers(row: &Row) -> RowNumbers
         entries: row.entry_count(),
         column: gap_column(row, 0),
         level: u32::from(row.para_level()),
-    }
-}
-
-/// The numbers where there is no row.
-pub fn no_row() -> RowNumbers
-    ensures { result ≡ no_row }
-{
-    RowNumbers {
-        first_place: 0,
-        last_place: 0,
-        entries: 0,
-        column: 0,
-        level: 0,
     }
 }
 
@@ -82,21 +102,6 @@ pub fn entry_numbers(entry: &Entry) -> EntryNumbers
     }
 }
 
-/// The numbers where there is no entry.
-pub fn no_entry() -> EntryNumbers
-    ensures { result ≡ no_entry }
-{
-    EntryNumbers {
-        first_byte: 0,
-        end_byte: 0,
-        first_place: 0,
-        end_place: 0,
-        column: 0,
-        level: 0,
-        columns: 0,
-    }
-}
-
 /// The numbers of a caret.
 pub fn caret_numbers(caret: Caret) -> CaretNumbers
     ensures { result ≡ caret_numbers caret }
@@ -105,17 +110,6 @@ pub fn caret_numbers(caret: Caret) -> CaretNumbers
         row: caret.row,
         gap: caret.gap,
         place: caret.place,
-    }
-}
-
-/// The numbers where there is no caret.
-pub fn no_caret() -> CaretNumbers
-    ensures { result ≡ no_caret }
-{
-    CaretNumbers {
-        row: 0,
-        gap: 0,
-        place: 0,
     }
 }
 

@@ -7,7 +7,7 @@ ghost use Rattle.c_pictures.specs.Drawing.{IsDrawnBy, IsRefusedDrawing, IsWidth}
 ghost use Rattle.c_pictures.specs.Numbers.{row_numbers, no_row, entry_numbers, no_entry};
 ghost use Rattle.c_answers.specs.Copying.{AreListed};
 
-use crate::numbers::{EntryNumbers, RowNumbers, entry_numbers, no_entry, no_row, row_numbers};
+use crate::numbers::{EntryNumbers, RowNumbers, entry_numbers, row_numbers};
 use bg_types::Base;
 use c_answers::{
     BAD_BASE, BAD_ENTRY, BAD_ROW, BAD_WIDTH, MEMORY, NOT_UTF8, OK, SHORT_BUFFER, TEXT_TOO_LONG,
@@ -93,7 +93,7 @@ pub fn tell_row(picture: &Picture, number: usize, out: &mut RowNumbers) -> u32
             OK
         }
         None => {
-            *out = no_row();
+            *out = RowNumbers::NONE;
             BAD_ROW
         }
     }
@@ -103,7 +103,7 @@ pub fn tell_row(picture: &Picture, number: usize, out: &mut RowNumbers) -> u32
 pub fn tell_entry(picture: &Picture, row: usize, number: usize, out: &mut EntryNumbers) -> u32
     ensures { MatchOption (slice_get picture.now.rows row) ((result ≡ 108) × (out.new ≡ no_entry)) (λ r. MatchOption (slice_get r.entries number) ((result ≡ 109) × (out.new ≡ no_entry)) (λ e. (result ≡ 0) × (out.new ≡ entry_numbers e))) }
 {
-    *out = no_entry();
+    *out = EntryNumbers::NONE;
     let Some(row) = picture.rows().get(row) else {
         return BAD_ROW;
     };
