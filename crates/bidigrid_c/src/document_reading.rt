@@ -7,8 +7,8 @@ ghost use Rattle.c_answers.specs.Copying.{IsLeft, IsWritten};
 ghost use Rattle.c_desks.specs.Numbers.{no_identifier};
 ghost use Rattle.c_desks.specs.Desks.{IsIdentifierWritten, IsPlaceWritten, IsSaved};
 
-use c_answers::EMPTY_HANDLE;
-use c_desks::{IdentifierNumbers, tell_file, tell_length, tell_place_of};
+use c_answers::{EMPTY_HANDLE, OK};
+use c_desks::{IdentifierNumbers, tell_file, tell_place_of};
 use c_documents::{DocumentHandle, tell_id_in, tell_text_of};
 use std::alloc::Global;
 
@@ -49,9 +49,9 @@ pub extern "C" fn bidigrid_document_length(
         *places = 0;
         return EMPTY_HANDLE;
     };
-    let answer = tell_length(held.document.desk(), places);
+    *places = held.document.desk().len();
     document.put(alloc, held);
-    answer
+    OK
 }
 
 /// Writes the identifier of the character at a place.

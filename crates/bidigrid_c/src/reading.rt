@@ -7,10 +7,8 @@ ghost use Rattle.c_answers.specs.Copying.{IsLeft, IsWritten};
 ghost use Rattle.c_desks.specs.Numbers.{no_identifier};
 ghost use Rattle.c_desks.specs.Desks.{IsIdentifierWritten, IsPlaceWritten, IsSaved};
 
-use c_answers::EMPTY_HANDLE;
-use c_desks::{
-    DeskHandle, IdentifierNumbers, tell_file, tell_id_at, tell_length, tell_place_of, tell_text,
-};
+use c_answers::{EMPTY_HANDLE, OK};
+use c_desks::{DeskHandle, IdentifierNumbers, tell_file, tell_id_at, tell_place_of, tell_text};
 use std::alloc::Global;
 
 /// Writes a desk's text in UTF-8.
@@ -50,9 +48,9 @@ pub extern "C" fn bidigrid_desk_length(
         *places = 0;
         return EMPTY_HANDLE;
     };
-    let answer = tell_length(&held, places);
+    *places = held.len();
     desk.put(alloc, held);
-    answer
+    OK
 }
 
 /// Writes the identifier of the character at a place.

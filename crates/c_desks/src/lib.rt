@@ -20,7 +20,7 @@ pub use fault::{take_number, type_number};
 pub use keystroke::{Keystroke, keystroke_of};
 pub use merging::{merge_from, merge_number};
 pub use numbers::{IdentifierNumbers, Taken, identifier_numbers, none_taken};
-pub use reading::{tell_file, tell_id_at, tell_length, tell_place_of, tell_text};
+pub use reading::{tell_file, tell_id_at, tell_place_of, tell_text};
 pub use replacing::replace_in;
 pub use taking::{read_message, take_in};
 pub use typing::{erase_in, type_in};

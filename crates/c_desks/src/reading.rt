@@ -31,15 +31,6 @@ pub fn tell_text(desk: &Desk, out: &mut [u8], size: &mut usize) -> u32
     }
 }
 
-/// Writes how many characters a desk's text has.
-pub fn tell_length(desk: &Desk, places: &mut usize) -> u32
-    ensures answer { result ≡ 0 }
-    ensures places { places.new ≡ length (visible desk.now.set) }
-{
-    *places = desk.len();
-    OK
-}
-
 /// Writes the identifier of the character at a place.
 pub fn tell_id_at(desk: &mut Desk, place: usize, id: &mut IdentifierNumbers) -> u32
     ensures written { IsIdentifierWritten desk.old.set place id.new result }

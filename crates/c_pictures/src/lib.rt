@@ -15,7 +15,7 @@ pub use data::{DataFault, DataFiles, data_fault, data_number};
 pub use numbers::{
     CaretNumbers, EntryNumbers, RowNumbers, caret_numbers, caret_of, entry_numbers, row_numbers,
 };
-pub use picture::{base_of, draw_text, tell_entries, tell_entry, tell_row, tell_rows, width_of};
+pub use picture::{base_of, draw_text, tell_entries, tell_entry, tell_row, width_of};
 pub use picture_handle::PictureHandle;
 pub use printing::{tell_entry_sizes, tell_print, tell_row_print, tell_size};
 pub use tables::load;

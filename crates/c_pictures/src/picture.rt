@@ -74,15 +74,6 @@ pub fn base_of(number: u32) -> Option<Base>
     }
 }
 
-/// Writes how many rows a picture has.
-pub fn tell_rows(picture: &Picture, count: &mut usize) -> u32
-    ensures answer { result ≡ 0 }
-    ensures count { count.new ≡ length picture.now.rows }
-{
-    *count = picture.rows().len();
-    OK
-}
-
 /// Writes what a row has, counted from 0 at the top.
 pub fn tell_row(picture: &Picture, number: usize, out: &mut RowNumbers) -> u32
     ensures { MatchOption (slice_get picture.now.rows number) ((result ≡ 108) × (out.new ≡ no_row)) (λ r. (result ≡ 0) × (out.new ≡ row_numbers r)) }
