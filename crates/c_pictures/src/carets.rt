@@ -10,6 +10,7 @@ ghost use Rattle.c_answers.specs.Numbers.{AreNumbersWritten};
 
 use crate::numbers::{CaretNumbers, caret_numbers, caret_of};
 use c_answers::{BAD_CARET, BAD_PLACE, BAD_ROW, OK};
+use caret::{at_column_among, down_among, left_among, right_among, up_among};
 use pictures::Picture;
 
 /// Writes the caret at a place of the text.
@@ -37,7 +38,7 @@ pub fn tell_caret_under(
         *caret = CaretNumbers::NONE;
         return BAD_ROW;
     }
-    *caret = caret_numbers(picture.at_column(row, column));
+    *caret = caret_numbers(at_column_among(picture.rows(), row, column));
     OK
 }
 
@@ -49,7 +50,7 @@ pub fn tell_right(picture: &Picture, caret: &mut CaretNumbers) -> u32
     if !picture.holds(from) {
         return BAD_CARET;
     }
-    *caret = caret_numbers(picture.right(from));
+    *caret = caret_numbers(right_among(picture.rows(), from));
     OK
 }
 
@@ -61,7 +62,7 @@ pub fn tell_left(picture: &Picture, caret: &mut CaretNumbers) -> u32
     if !picture.holds(from) {
         return BAD_CARET;
     }
-    *caret = caret_numbers(picture.left(from));
+    *caret = caret_numbers(left_among(picture.rows(), from));
     OK
 }
 
@@ -73,7 +74,7 @@ pub fn tell_up(picture: &Picture, caret: &mut CaretNumbers) -> u32
     if !picture.holds(from) {
         return BAD_CARET;
     }
-    *caret = caret_numbers(picture.up(from));
+    *caret = caret_numbers(up_among(picture.rows(), from));
     OK
 }
 
@@ -85,6 +86,6 @@ pub fn tell_down(picture: &Picture, caret: &mut CaretNumbers) -> u32
     if !picture.holds(from) {
         return BAD_CARET;
     }
-    *caret = caret_numbers(picture.down(from));
+    *caret = caret_numbers(down_among(picture.rows(), from));
     OK
 }

@@ -2,7 +2,7 @@
 
 use crate::rows::{Row, assert_rows};
 use bg_types::{Base, Memory};
-use caret::Caret;
+use caret::{Caret, down_among, left_among, right_among, up_among};
 use pictures::*;
 use std::alloc::Global;
 use ucd_files::{Tables, UcdFault, vectors};
@@ -22,10 +22,11 @@ fn shared_tables(alloc: Global) -> Result<SharedTables, Memory> {
 /// Where a caret comes that goes right, down, left and up.
 fn places_of_walk(picture: &Picture) -> [usize; 4] {
     let start: Caret = picture.at_place(0);
-    let right = picture.right(start);
-    let down = picture.down(right);
-    let left = picture.left(down);
-    let up = picture.up(left);
+    let rows = picture.rows();
+    let right = right_among(rows, start);
+    let down = down_among(rows, right);
+    let left = left_among(rows, down);
+    let up = up_among(rows, left);
     [right.place, down.place, left.place, up.place]
 }
 

@@ -6,15 +6,12 @@ ghost use Rattle.std.specs.Str.{chars};
 ghost use Rattle.cell_grid.specs.Grids.{grid_of, IsDrawn};
 ghost use Rattle.cell_grid.specs.Print.{printed, printed_row, printed_sizes};
 ghost use Rattle.caret.specs.Gaps.{IsCaretOf};
-ghost use Rattle.caret.specs.Moves.{right_of, left_of, up_of, down_of, caret_under};
 ghost use Rattle.caret.specs.Places.{caret_at};
 
 use crate::shared_tables::SharedTables;
 use bg_types::{Base, Memory};
 use caret::laws::places_in_windows;
-use caret::{
-    Caret, at_column_among, at_place_among, down_among, left_among, right_among, up_among,
-};
+use caret::{Caret, at_place_among};
 use cell_grid::laws::{entries_are_slices, first_places_rise, rows_follow};
 use cell_grid::{InMemory, Row, draw, print_row, print_rows, row_entry_sizes, row_print_size};
 use std::alloc::Global;
@@ -200,55 +197,5 @@ impl Picture {
         first_places_rise();
         places_in_windows();
         at_place_among(self.rows(), place)
-    }
-
-    /// The caret where a mouse points, as `caret::at_column` answers.
-    /// Cost: that of `at_column`.
-    pub fn at_column(&self, row: usize, column: usize) -> Caret
-        requires { row < length self.now.rows }
-        ensures caret { result ≡ caret_under self.now.rows row column }
-        ensures within { IsCaretOf self.now.rows result }
-    {
-        at_column_among(self.rows(), row, column)
-    }
-
-    /// The caret one step to the right, as `caret::right` answers.
-    /// Cost: that of `right`.
-    pub fn right(&self, caret: Caret) -> Caret
-        requires { IsCaretOf self.now.rows caret }
-        ensures caret { result ≡ right_of self.now.rows caret }
-        ensures within { IsCaretOf self.now.rows result }
-    {
-        right_among(self.rows(), caret)
-    }
-
-    /// The caret one step to the left, as `caret::left` answers.
-    /// Cost: that of `left`.
-    pub fn left(&self, caret: Caret) -> Caret
-        requires { IsCaretOf self.now.rows caret }
-        ensures caret { result ≡ left_of self.now.rows caret }
-        ensures within { IsCaretOf self.now.rows result }
-    {
-        left_among(self.rows(), caret)
-    }
-
-    /// The caret one row higher, as `caret::up` answers.
-    /// Cost: that of `up`.
-    pub fn up(&self, caret: Caret) -> Caret
-        requires { IsCaretOf self.now.rows caret }
-        ensures caret { result ≡ up_of self.now.rows caret }
-        ensures within { IsCaretOf self.now.rows result }
-    {
-        up_among(self.rows(), caret)
-    }
-
-    /// The caret one row lower, as `caret::down` answers.
-    /// Cost: that of `down`.
-    pub fn down(&self, caret: Caret) -> Caret
-        requires { IsCaretOf self.now.rows caret }
-        ensures caret { result ≡ down_of self.now.rows caret }
-        ensures within { IsCaretOf self.now.rows result }
-    {
-        down_among(self.rows(), caret)
     }
 }
