@@ -9,7 +9,6 @@ use std::rc::Rc;
 use unicode_tables::Tables;
 
 /// A share in tables, which go with the last share. All shares of some tables stay in one thread.
-#[derive(Drop)]
 pub struct SharedTables {
     tables: Rc<Tables>,
 }
@@ -20,6 +19,13 @@ impl Model for SharedTables {
     ghost Value = { TableValues };
 
     ghost view = { λ s. s.tables.value };
+}
+
+// Written out: a crate above then proves the call, and nothing of the parts.
+impl Drop for SharedTables {
+    fn drop(self) {
+        let SharedTables { tables: _ } = self;
+    }
 }
 
 impl SharedTables {
