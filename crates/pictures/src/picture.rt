@@ -16,12 +16,13 @@ use cell_grid::laws::{entries_are_slices, first_places_rise, rows_follow};
 use cell_grid::{InMemory, Row, draw, print_row, print_rows, row_entry_sizes, row_print_size};
 use std::alloc::Global;
 use std::marker::Model;
+use std::rc::Rc;
 use unicode_tables::Tables;
 
 /// A text as it is drawn, with the tables and the text of its own. Clauses see it as its grid.
 pub struct Picture {
     alloc: Global,
-    tables: SharedTables,
+    tables: Rc<Tables>,
     text: String,
     rows: Vec<Row>,
 }
@@ -32,9 +33,9 @@ impl Model for Picture {
 
     ghost Value = { DrawnGrid };
 
-    ghost view = { λ p. record { tables = p.tables; text = string_bytes p.text; rows = p.rows.items } };
+    ghost view = { λ p. record { tables = p.tables.value; text = string_bytes p.text; rows = p.rows.items } };
 
-    ghost invariant = { λ p. IsDrawn (record { tables = p.tables; text = string_bytes p.text; rows = p.rows.items }) };
+    ghost invariant = { λ p. IsDrawn (record { tables = p.tables.value; text = string_bytes p.text; rows = p.rows.items }) };
 }
 
 // Written out: a crate above then proves the call, and nothing of the parts.
@@ -64,9 +65,9 @@ impl Picture {
         requires size { length text.now ≤ 4_000_000 }
         ensures { IfOk result (λ picture. picture ≡ grid_of tables.now width base text.now) }
     {
-        let tables = tables.share()?;
+        let tables = tables.to_rc()?;
         let text = String::from_str(alloc, text)?;
-        let rows = draw(alloc, tables.tables(), width, base, text.as_str())?.into_rows();
+        let rows = draw(alloc, &tables, width, base, text.as_str())?.into_rows();
         Ok(Picture {
             alloc,
             tables,
@@ -80,7 +81,7 @@ impl Picture {
     pub fn tables(&self) -> &Tables
         ensures { result.now ≡ self.now.tables }
     {
-        self.tables.tables()
+        &self.tables
     }
 
     /// The text that it was drawn from.

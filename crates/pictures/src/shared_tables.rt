@@ -39,26 +39,10 @@ impl SharedTables {
     }
 
     /// A further share in the same tables.
-    pub fn share(&self) -> Result<SharedTables, Memory>
-        ensures { IfOk result (λ shared. shared ≡ self.now) }
-    {
-        let tables = self.to_rc()?;
-        Ok(SharedTables { tables })
-    }
-
-    /// A further share, for what keeps its tables by an `Rc`.
     pub fn to_rc(&self) -> Result<Rc<Tables>, Memory>
         ensures { IfOk result (λ tables. tables.value ≡ self.now) }
     {
         let tables = self.tables.clone()?;
         Ok(tables)
-    }
-
-    /// The tables.
-    #[inline]
-    pub fn tables(&self) -> &Tables
-        ensures { result.now ≡ self.now }
-    {
-        &self.tables
     }
 }
