@@ -2,7 +2,6 @@
 
 ghost use Rattle.std.specs.Prelude.{◌≡◌, None};
 ghost use Rattle.std.specs.Option.{IfSome};
-ghost use Rattle.desk_replica.specs.Merging.{IsMerge};
 ghost use Rattle.c_desks.specs.Desks.{IsMergedWith, merge_number};
 
 use crate::desk::Desk;
@@ -29,14 +28,7 @@ pub fn merge_from(alloc: Global, desk: &mut DeskHandle, other: &Desk) -> u32
 fn merge_in(desk: &mut Desk, other: &Desk) -> u32
     ensures { IsMergedWith desk.old other.now desk.new result }
 {
-    let met = meet(desk, other);
-    merge_number(met)
-}
-
-fn meet(desk: &mut Desk, other: &Desk) -> Result<u32, TakeFault>
-    ensures { IsMerge desk.old other.now desk.new result }
-{
-    desk.merge(other)
+    merge_number(desk.merge(other))
 }
 
 /// The number of what a merge answers.
