@@ -3,7 +3,7 @@
 ghost use Rattle.std.specs.Prelude.{◌≡◌, ◌<◌, vec_len, IfOk, IfErr, MatchResult};
 ghost use Rattle.op_codec.specs.Spelling.{Spells};
 ghost use Rattle.c_desks.specs.Numbers.{none_taken};
-ghost use Rattle.c_desks.specs.Desks.{IsTakenUpTo, IsMessageTaken, IsUnread, IsTooLong};
+ghost use Rattle.c_desks.specs.Desks.{IsMessageTaken, IsUnread, IsTooLong};
 
 use crate::desk::Desk;
 use crate::fault::{message_number, take_number};
@@ -13,31 +13,25 @@ use c_answers::{MESSAGE_TOO_LONG, OK};
 use op_codec::{LONGEST_FILE, decode_file};
 use std::alloc::Global;
 
-/// Lets a desk take operations in order, up to the first that it refuses, and writes how many it took.
-fn take_each(desk: &mut Desk, ops: &[Op], taken: &mut usize) -> u32
-    ensures { IsTakenUpTo desk.old ops.now desk.new taken.new result }
-{
-    match desk.take_all(ops) {
-        Ok(()) => {
-            *taken = ops.len();
-            OK
-        }
-        Err(stop) => {
-            *taken = stop.taken;
-            take_number(stop.fault)
-        }
-    }
-}
-
 /// Lets a desk take a message: its bytes are read whole first, and then its operations are taken in order, up to the first that the desk
 /// refuses.
 pub fn take_in(alloc: Global, desk: &mut Desk, bytes: &[u8], taken: &mut Taken) -> u32
     ensures taken { IsMessageTaken desk.old bytes.now desk.new taken.new result }
     ensures too_long { IsTooLong bytes.now → result ≡ 116 }
 {
-    match read_message(alloc, bytes, taken) {
-        Ok(ops) => take_each(desk, &ops, &mut taken.taken),
-        Err(fault) => fault,
+    let ops = match read_message(alloc, bytes, taken) {
+        Ok(ops) => ops,
+        Err(fault) => return fault,
+    };
+    match desk.take_all(&ops) {
+        Ok(()) => {
+            taken.taken = ops.len();
+            OK
+        }
+        Err(stop) => {
+            taken.taken = stop.taken;
+            take_number(stop.fault)
+        }
     }
 }
 
