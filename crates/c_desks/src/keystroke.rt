@@ -1,6 +1,6 @@
 //! Changes of one character.
 
-ghost use Rattle.std.specs.Prelude.{◌≡◌, ◌+◌, length, slice_get};
+ghost use Rattle.std.specs.Prelude.{◌≡◌, ◌+◌, length};
 ghost use Rattle.std.specs.Option.{MatchOption};
 ghost use Rattle.std.specs.Str.{chars};
 ghost use Rattle.c_desks.specs.Keystrokes.{IsKeystroke};
@@ -27,15 +27,8 @@ pub fn keystroke_of(erased: usize, text: &str) -> Option<Keystroke>
     if erased != 0 || typed != 1 {
         return None;
     }
-    match first_character(text) {
+    match text.chars().next() {
         Some(ch) => Some(Keystroke::Typed(ch)),
         None => None,
     }
-}
-
-/// The first character of a text.
-fn first_character(text: &str) -> Option<char>
-    ensures { result ≡ slice_get (chars text.now) 0 }
-{
-    text.chars().next()
 }
