@@ -2,8 +2,6 @@
 
 ghost use Rattle.std.specs.Prelude.{◌≡◌, ◌+◌, ◌-◌, length};
 ghost use Rattle.std.specs.Str.{chars, IsUtf8};
-ghost use Rattle.c_desks.specs.declared.keystroke.Keystroke.TheVariants.{Typed};
-ghost use Rattle.c_desks.specs.Keystrokes.{IsKeystroke};
 ghost use Rattle.c_desks.specs.Desks.{HasRoomFor, IsReplaced, IsRefusedExchange, IsRefusedReplacing, IsUnwritten};
 
 use crate::desk::Desk;
@@ -37,7 +35,7 @@ pub fn replace_in(
 }
 
 /// Puts a text in the place of characters. One character is typed or erased without memory for its message.
-#[tactic(auto, using(crate::proofs::Keystrokes::erased_place, crate::proofs::Keystrokes::erased_room, crate::proofs::Keystrokes::erased_key, crate::proofs::Keystrokes::unerased_exchange))]
+#[tactic(auto, using(crate::proofs::Keystrokes::typed_place, crate::proofs::Keystrokes::typed_room, crate::proofs::Keystrokes::untyped_exchange, crate::proofs::Keystrokes::erased_place, crate::proofs::Keystrokes::erased_room, crate::proofs::Keystrokes::erased_key, crate::proofs::Keystrokes::unerased_exchange))]
 pub(crate) fn exchange_in(
     alloc: Global,
     desk: &mut Desk,
@@ -56,30 +54,10 @@ pub(crate) fn exchange_in(
         return answer;
     }
     match keystroke_of(to - from, text) {
-        Some(Keystroke::Typed(ch)) => type_key_in(desk, from, to, text, ch, out, size),
+        Some(Keystroke::Typed(ch)) => type_one_in(desk, from, ch, out, size),
         Some(Keystroke::Erased) => erase_one_in(desk, from, out, size),
         None => exchange_many_in(alloc, desk, from, to, text, out, size),
     }
-}
-
-/// Types the character of a text that is a keystroke.
-#[tactic(auto, using(crate::proofs::Keystrokes::typed_place, crate::proofs::Keystrokes::typed_room, crate::proofs::Keystrokes::untyped_exchange))]
-fn type_key_in(
-    desk: &mut Desk,
-    from: usize,
-    to: usize,
-    text: &str,
-    ch: char,
-    out: &mut [u8],
-    size: &mut usize,
-) -> u32
-    requires room { HasRoomFor desk.old from to (length (chars text.now)) (length out.old) }
-    requires key { IsKeystroke (to - from) (chars text.now) (Typed ch) }
-    ensures ok { result ≡ 0 → IsReplaced desk.old from to (chars text.now) desk.new out.old out.new size.new }
-    ensures err { (result ≡ 0 → ⊥) → (desk.new ≡ desk.old) × (out.new ≡ out.old) × (size.new ≡ size.old) }
-    ensures fault { (result ≡ 0 → ⊥) → IsRefusedExchange desk.old from to (length (chars text.now)) (length out.old) size.new result }
-{
-    type_one_in(desk, from, ch, out, size)
 }
 
 /// Puts a text in the place of characters, which is no keystroke and for which there is room.
