@@ -65,12 +65,13 @@ impl Document {
     pub fn holds(&mut self, position: Position) -> Result<bool, Memory>
         ensures yes { IfOk result (λ holds. OnTrue holds (IsPositionOf (whole_rows self.old) position)) }
         ensures no { IfOk result (λ holds. OnFalse holds (¬ (IsPositionOf (whole_rows self.old) position))) }
+        ensures within { IfOk result (λ holds. OnTrue holds (position.row ≤ length (visible self.old.desk.set))) }
         ensures rows { whole_rows self.new ≡ whole_rows self.old }
         ensures desk { self.new.desk ≡ self.old.desk }
         ensures drawn { IsDrawnAlike self.old self.new }
         ensures window { OnOk result (position.row ≤ length (visible self.old.desk.set) → self.new.window ≡ window_round self.old position.row 0 0) }
         ensures laid { OnOk result (position.row ≤ length (visible self.old.desk.set) → IsLaidOut self.old self.new position.row 0 0) }
-        ensures outside { OnOk result (length (visible self.old.desk.set) < position.row → self.new.laid ≡ self.old.laid) }
+        ensures outside { OnOk result (length (visible self.old.desk.set) < position.row → (self.new.laid ≡ self.old.laid) × (self.new.paragraphs ≡ self.old.paragraphs)) }
         ensures uncounted { OnErr result ((self.new.laid ≡ self.old.laid) ⊎ IsLaidOut self.old self.new position.row 0 0) }
     {
         laws_below();

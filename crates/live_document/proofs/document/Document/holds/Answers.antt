@@ -53,6 +53,12 @@ returns-clause-no c =
     (subst (λ (l : List DrawnRow). IsPositionOf l p) (sym (c.deref.ensures.value ∙ seen))
     (position-seen (whole_grid d).rows (whole-rises below (whole_grid d) drawn) p.row (whole-begun below (whole_grid d) drawn p.row) 0 0 p refl stands)))
 
+pub returns-clause-within : goal.returns-clause-within
+returns-clause-within c =
+    let inside = ap (λ (d : LiveDocument). length (visible d.desk.set)) c.self.view_is in
+    let count = ap (λ (desk : Desk). length (visible desk.set)) c.refresh.ensures.desk in
+    OnTrue_from c.stands_among.result _ (λ yes. omega (arith, inside, count, c.len.ensures, c.if-position-len.false))
+
 pub returns-clause-laid : goal.returns-clause-laid
 returns-clause-laid c = λ within. laid-from c.refresh.new.self c.args.self.now c.rows_round.new.self c.args.position.row 0 0 c.refresh.ensures.paragraphs c.in_ok-rows.ensures.laid
 
