@@ -48,6 +48,17 @@ kept-same (p ∷ kept) (q ∷ new) e f =
     (ap₂ make (ap (λ l. get_or l 0 []) e) (ap (λ l. get_or l 0 None) f))
     (kept-same kept new (ap (drop 1) e) (ap (drop 1) f))
 
+-- nothing is kept of any of them
+pub bare-none : (kept new : KeptText) → paragraphs_in new ≡ paragraphs_in kept → kept_in new ≡ forgotten (kept_in kept) → new ≡ map anew (paragraphs_in kept)
+bare-none [] [] e f = refl
+bare-none [] (q ∷ new) e f = cc
+bare-none (p ∷ kept) [] e f = cc
+bare-none (p ∷ kept) (q ∷ new) e f =
+    let make : List ℕ → Option Rows → KeptParagraph Rows = λ points k. record { points = points; kept = k } in
+    ap₂ (λ (first : KeptParagraph Rows) later. first ∷ later)
+    (ap₂ make (ap (λ l. get_or l 0 []) e) (ap (λ l. get_or l 0 None) f))
+    (bare-none kept new (ap (drop 1) e) (ap (drop 1) f))
+
 module _ (tables : TableValues) (width : ℕ) (base : Base) where
   laid-beside : (o : Option Rows) (points : List ℕ) → IfSome o (λ (rows : Rows). rows ≡ rows_of_text tables width base points) → is_some o ≡ true
       → option_map_or (λ (rows : Rows). rows) o [] ≡ rows_of_text tables width base points

@@ -17,7 +17,7 @@ use Rattle.text_buffer.specs.Edits.{anew, IsParagraphOf, IsTouched, IsTouchedInT
 use Rattle.text_buffer.specs.declared.touched.Touched.{Touched}
 use Rattle.live_document.specs.Keeping.{Rows, KeptText, rows_weight, flags, is_kept}
 use Rattle.live_document.specs.Documents.{LiveDocument, counted, paragraphs_of, IsLive}
-use Rattle.live_document.specs.Cost.{HasRow, IsBare, IsLaidOut, KeepsOthers, KeepsUnchanged, allowed, marks, unmarked, weight_kept, weight_outside, carried, stretch_marks}
+use Rattle.live_document.specs.Cost.{HasRow, AreForgotten, IsBare, IsLaidOut, KeepsOthers, KeepsUnchanged, allowed, marks, unmarked, weight_kept, weight_outside, carried, stretch_marks}
 use Rattle.live_document.specs.declared.shown.Shown.{Shown}
 use Rattle.live_document.proofs.Marks.{count-cons, cond-most}
 
@@ -197,6 +197,12 @@ none-kept (suc n) (suc k) = none-kept n k
 -- what is behind keeps nothing
 pub bare-behind : (tables : TableValues) (set : OperationSet) (kept : KeptText) → IsBare (paragraphs_of true tables set kept)
 bare-behind tables set kept = ap (map anew) (sym (texts-anew (paragraph_points tables (text set))))
+
+-- nor does one whose rows were all dropped
+pub forgotten-all : (behind : Bool) (tables : TableValues) (set : OperationSet) (kept now : KeptText) → now ≡ map anew (paragraphs_in kept)
+    → AreForgotten (paragraphs_of behind tables set kept) (paragraphs_of behind tables set now)
+forgotten-all true tables set kept now is = bare-behind tables set now
+forgotten-all false tables set kept now is = ap (map counted) is ∙ counted-anew (paragraphs_in kept) ∙ ap (map anew) (sym (texts-counted kept))
 
 pub unkept-behind : (behind : Bool) (tables : TableValues) (set : OperationSet) (kept : KeptText) → (behind ≡ false → ⊥) → (k : ℕ) → is_kept (marks (paragraphs_of behind tables set kept)) k ≡ false
 unkept-behind false tables set kept behind k = absurd (behind refl)

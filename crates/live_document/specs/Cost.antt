@@ -89,6 +89,10 @@ pub record IsLaidOut (old new : LiveDocument) (place above below : ℕ) : Type 0
 abbrev pub IsBare : List (KeptParagraph ℕ) → Type 0
 IsBare paragraphs = paragraphs ≡ each anew (paragraphs_in paragraphs)
 
+-- nothing is kept any more of these paragraphs
+abbrev pub AreForgotten : (old new : List (KeptParagraph ℕ)) → Type 0
+AreForgotten old new = new ≡ each anew (paragraphs_in old)
+
 -- an edit made the paragraphs anew that it met, and what is kept of the others stays; or there was no memory for that
 abbrev pub KeepsOthers : (old new : List (KeptParagraph ℕ)) → (from to : ℕ) → Type 0
 KeepsOthers old new from to = IsBare new ⊎ ((touched : Touched) × IsTouched old from to touched new)

@@ -1,9 +1,10 @@
 //! Rows that are kept beside paragraphs.
 
-ghost use Rattle.std.specs.Prelude.{◌≡◌, ◌+◌, ◌-◌, ◌*◌, ◌≤◌, ◌<◌, ◌⊎◌, ℕ, [], true, false, max, All, length, not, get_or, slice_set, slice_range, count_by, IfOk, OnOk, OnErr, IsOk, if◌then◌else◌};
+ghost use Rattle.std.specs.Prelude.{◌≡◌, ◌+◌, ◌-◌, ◌*◌, ◌≤◌, ◌<◌, ◌⊎◌, ℕ, [], true, false, max, All, map, length, not, get_or, slice_set, slice_range, count_by, IfOk, OnOk, OnErr, IsOk, if◌then◌else◌};
 ghost use Rattle.bg_types.specs.declared.class.Base.{Base};
 ghost use Rattle.unicode_tables.specs.Tables.{TableValues};
 ghost use Rattle.text_buffer.specs.Buffers.{paragraphs_in};
+ghost use Rattle.text_buffer.specs.Edits.{anew};
 ghost use Rattle.live_document.specs.Keeping.{flags, is_kept, rows_of_text, rows_of_texts, rows_weight, weight_held, IsLaid, IsKeptAt, IsMarked};
 
 use crate::laws_below::laws_below;
@@ -27,6 +28,7 @@ pub struct Most {
 /// Drops the rows of all paragraphs, as is needed before another width or base direction.
 pub fn forget_rows(buffer: &mut Buffer<ParagraphRows>)
     ensures paragraphs { paragraphs_in buffer.new ≡ paragraphs_in buffer.old }
+    ensures bare { buffer.new ≡ map anew (paragraphs_in buffer.old) }
     ensures held { weight_held buffer.new ≡ 0 }
     ensures none { (tables : TableValues) (width : ℕ) (base : Base) → All (IsLaid tables width base) buffer.new }
 {

@@ -1,6 +1,7 @@
 //! How a document is drawn: at which width and base direction, and with how many rows kept.
 
 ghost use Rattle.std.specs.Prelude.{◌≡◌, ◌≤◌, false};
+ghost use Rattle.live_document.specs.Cost.{AreForgotten};
 ghost use Rattle.live_document.specs.Runs.{Resizes, Turns, Keeps, IsCall};
 ghost use Rattle.live_document.specs.Showing.{no_window};
 
@@ -21,6 +22,7 @@ impl Document {
         ensures desk { self.new.desk ≡ self.old.desk }
         ensures most { self.new.most ≡ self.old.most }
         ensures window { self.new.window ≡ no_window }
+        ensures forgotten { AreForgotten self.old.paragraphs self.new.paragraphs }
         ensures laid { self.new.laid ≡ self.old.laid }
         ensures call { IsCall self.old (Resizes width) false self.new }
     {
@@ -39,6 +41,7 @@ impl Document {
         ensures desk { self.new.desk ≡ self.old.desk }
         ensures most { self.new.most ≡ self.old.most }
         ensures window { self.new.window ≡ no_window }
+        ensures forgotten { AreForgotten self.old.paragraphs self.new.paragraphs }
         ensures laid { self.new.laid ≡ self.old.laid }
         ensures call { IsCall self.old (Turns base) false self.new }
     {
