@@ -5,7 +5,7 @@ ghost use Rattle.std.specs.Option.{IfSome};
 ghost use Rattle.bg_types.specs.declared.class.Base.{Base as BaseValue};
 ghost use Rattle.desk_replica.specs.Desk.{fresh};
 ghost use Rattle.c_pictures.specs.Bases.{base_of};
-ghost use Rattle.c_documents.specs.Documents.{IsLaidOut, IsNotMade, IsOpened, IsNotOpened, IsDrawnAt, IsPaidFor, KeepsRows};
+ghost use Rattle.c_documents.specs.Documents.{IsMade, IsNotMade, IsOpened, IsNotOpened, IsDrawnAt, IsPaidFor, KeepsRows};
 ghost use Rattle.c_pictures.specs.Drawing.{IsWidth};
 ghost use Rattle.c_desks.specs.Numbers.{IsSite, none_taken};
 
@@ -29,7 +29,7 @@ pub extern "C" fn bidigrid_document_new(
     key_high: u64,
     key_low: u64,
 ) -> u32
-    ensures ok { result ≡ 0 → IfSome tables.old.held (λ t. IfSome out.new.held (IsLaidOut t width base (fresh site))) }
+    ensures ok { result ≡ 0 → IfSome tables.old.held (λ t. IfSome out.new.held (IsMade t width base (fresh site))) }
     ensures held { result ≡ 0 → out.new.held ≡ None → ⊥ }
     ensures sound { result ≡ 0 → IsSite site × IsWidth width }
     ensures err { (result ≡ 0 → ⊥) → out.new.held ≡ out.old.held }

@@ -43,7 +43,7 @@ pub record TellAlike (old new : ToldDocument) : Type 0 where
 -- ---- made and drawn
 
 -- a new document of a desk, drawn by these tables at this width and the base with this number
-pub record IsLaidOut (tables : TableValues) (width base : ℕ) (desk : Desk) (new : ToldDocument) : Type 0 where
+pub record IsMade (tables : TableValues) (width base : ℕ) (desk : Desk) (new : ToldDocument) : Type 0 where
   pub desk_is : new.document.desk ≡ desk
   pub tables_are : new.document.tables ≡ tables
   pub width_is : new.document.width ≡ width
@@ -64,7 +64,7 @@ IsNotMade site width base answer =
 pub record IsOpened (tables : TableValues) (site width base : ℕ) (file : List ℕ) (told : Taken) (new : ToldDocument) : Type 0 where
   pub desk : Desk
   pub taken : IsMessageTaken (fresh site) file desk told 0
-  pub laid_out : IsLaidOut tables width base desk new
+  pub made : IsMade tables width base desk new
 
 -- why none was made of a file
 abbrev pub IsNotOpened : (site width base : ℕ) → (file : List ℕ) → Taken → (answer : ℕ) → Type 0

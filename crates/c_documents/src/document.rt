@@ -4,7 +4,7 @@ ghost use Rattle.std.specs.Prelude.{◌≡◌, ◌⊎◌, ◌<◌, Some, None, I
 ghost use Rattle.bg_types.specs.declared.class.Base.{Base as BaseValue};
 ghost use Rattle.desk_replica.specs.Desk.{fresh};
 ghost use Rattle.c_pictures.specs.Bases.{base_of};
-ghost use Rattle.c_documents.specs.Documents.{IsLaidOut, IsNotMade, IsOpened, IsNotOpened, IsDrawnAt, IsPaidFor, KeepsRows};
+ghost use Rattle.c_documents.specs.Documents.{IsMade, IsNotMade, IsOpened, IsNotOpened, IsDrawnAt, IsPaidFor, KeepsRows};
 ghost use Rattle.c_pictures.specs.Drawing.{IsWidth};
 ghost use Rattle.c_desks.specs.Numbers.{IsSite, none_taken};
 
@@ -27,12 +27,12 @@ pub fn new_document(
     key_high: u64,
     key_low: u64,
 ) -> Result<Box<ToldDocument>, u32>
-    ensures ok { IfOk result (λ boxed. IsLaidOut tables.now width base (fresh site) boxed.value × IsSite site × IsWidth width) }
+    ensures ok { IfOk result (λ boxed. IsMade tables.now width base (fresh site) boxed.value × IsSite site × IsWidth width) }
     ensures fault { IfErr result (IsNotMade site width base) }
     ensures some { IfErr result (λ fault. 0 < fault) }
 {
     let desk = fresh_desk(alloc, site, key_high, key_low)?;
-    laid_out(alloc, tables, width, base, desk)
+    document_of(alloc, tables, width, base, desk)
 }
 
 /// A document of a site that has taken a file, for a handle, or the number of the fault.
@@ -57,7 +57,7 @@ pub fn opened(
     if answer != OK {
         return Err(answer);
     }
-    match laid_out(alloc, tables, width, base, desk) {
+    match document_of(alloc, tables, width, base, desk) {
         Ok(document) => Ok(document),
         Err(fault) => {
             *taken = none_taken(0);
@@ -67,14 +67,14 @@ pub fn opened(
 }
 
 /// The document of a desk, for a handle, or the number of the fault.
-fn laid_out(
+fn document_of(
     alloc: Global,
     tables: &SharedTables,
     width: u32,
     base: u32,
     desk: Desk,
 ) -> Result<Box<ToldDocument>, u32>
-    ensures ok { IfOk result (λ boxed. IsLaidOut tables.now width base desk boxed.value × IsWidth width) }
+    ensures ok { IfOk result (λ boxed. IsMade tables.now width base desk boxed.value × IsWidth width) }
     ensures fault { IfErr result (λ fault. ((fault ≡ 9) × IsWidth width × (¬ (base_of base ≡ None))) ⊎ (((fault ≡ 105) × (¬ (IsWidth width))) ⊎ ((fault ≡ 106) × (base_of base ≡ None)))) }
     ensures some { IfErr result (λ fault. 0 < fault) }
 {

@@ -14,4 +14,4 @@ returns-in-Ok-clause-ok c =
     let taken = c.take_in-answer in
     let of_fresh = subst (λ (d : Desk). IsMessageTaken d c.args.file.now taken.new.desk taken.new.taken taken.result) c.in_ok-desk.ensures.ok.0 taken.ensures.taken in
     let all = subst (λ (answer : ℕ). IsMessageTaken (fresh c.args.site) c.args.file.now taken.new.desk taken.new.taken answer) c.if-answer-ne-OK.false of_fresh in
-    (record { desk = taken.new.desk; taken = all; laid_out = c.in-Ok.ensures.ok.0 }, c.in_ok-desk.ensures.ok.1, c.in-Ok.ensures.ok.1)
+    (record { desk = taken.new.desk; taken = all; made = c.in-Ok.ensures.ok.0 }, c.in_ok-desk.ensures.ok.1, c.in-Ok.ensures.ok.1)
