@@ -15,6 +15,7 @@ use Rattle.caret.specs.declared.caret.Caret.{Caret}
 use Rattle.caret.specs.declared.position.Position.{Position}
 use Rattle.caret.specs.Moves.{caret_under}
 use Rattle.caret.specs.Positions.{position_at, position_of, position_moved, IsPositionOf}
+use Rattle.live_document.specs.Cost.{weight_kept, IsLaidOut, IsWindowKept}
 use Rattle.live_document.specs.Documents.{whole_rows, window_round, IsDrawnAlike}
 use Rattle.live_document.specs.Showing.{no_window}
 use Rattle.c_documents.specs.declared.told_document.ToldDocument.{ToldDocument}
@@ -147,13 +148,19 @@ AreChangesTold d before after count answer =
 
 -- ---- showing
 
--- the window round a place is shown, and how many rows it has, and which of them is the place's, was written
-pub record IsShown (old : ToldDocument) (place above below : ℕ) (new : ToldDocument) (told : WindowNumbers) : Type 0 where
-  pub window : new.document.window ≡ window_round old.document place above below
-  pub numbers : told ≡ window_numbers new.document.window
+-- a document was asked what it shows, or where a caret stands: its text, and how it is drawn and what it tells, are as before
+pub record IsAsked (old new : ToldDocument) : Type 0 where
   pub desk : new.document.desk ≡ old.document.desk
   pub drawn : IsDrawnAlike old.document new.document
   pub alike : TellAlike old new
+
+-- the window round a place is shown, of which only that was laid out that was not kept; and how many rows it has, and which of
+-- them is the place's, was written
+pub record IsShown (old : ToldDocument) (place above below : ℕ) (new : ToldDocument) (told : WindowNumbers) : Type 0 where
+  pub window : new.document.window ≡ window_round old.document place above below
+  pub laid_out : IsLaidOut old.document new.document place above below
+  pub numbers : told ≡ window_numbers new.document.window
+  pub asked : IsAsked old new
 
 -- there is such a place, and so many rows round its own are shown
 pub record MayShow (old : ToldDocument) (place above below : ℕ) : Type 0 where
@@ -161,20 +168,22 @@ pub record MayShow (old : ToldDocument) (place above below : ℕ) : Type 0 where
   pub few_above : above ≤ 1_000
   pub few_below : below ≤ 1_000
 
--- why it is not: no memory, and nothing is shown; no such place, or more rows than are shown, and the document is as it was
+-- there was no memory for it, as there may be none where not all of it is kept: nothing is shown then, and nothing kept
+pub record IsRefusedMemory (old : ToldDocument) (place above below : ℕ) (new : ToldDocument) : Type 0 where
+  pub may_show : MayShow old place above below
+  pub not_kept : ¬ (IsWindowKept old.document place above below)
+  pub nothing_shown : new.document.window ≡ no_window
+  pub nothing_kept : weight_kept new.document.paragraphs ≡ 0
+  pub asked : IsAsked old new
+
+-- why it is not: no memory; no such place, or more rows than are shown, and the document is as it was
 abbrev pub IsNotShown : (old : ToldDocument) → (place above below : ℕ) → (new : ToldDocument) → (answer : ℕ) → Type 0
 IsNotShown old place above below new answer =
-    ((answer ≡ 9) × MayShow old place above below × (new.document.window ≡ no_window) × (new.document.desk ≡ old.document.desk) × IsDrawnAlike old.document new.document × TellAlike old new)
+    ((answer ≡ 9) × IsRefusedMemory old place above below new)
     ⊎ (((answer ≡ 107) × (length (visible old.document.desk.set) < place) × (new ≡ old))
     ⊎ ((answer ≡ 108) × ((1_000 < above) ⊎ (1_000 < below)) × (new ≡ old)))
 
 -- ---- positions
-
--- a document answered where a caret stands: its text, and how it is drawn and what it tells, are as before
-pub record IsAsked (old new : ToldDocument) : Type 0 where
-  pub desk : new.document.desk ≡ old.document.desk
-  pub drawn : IsDrawnAlike old.document new.document
-  pub alike : TellAlike old new
 
 -- this position was written, and the rows from so many above that of a place to so many below it are shown
 pub record IsPositionWritten (old : ToldDocument) (position : Position) (place around : ℕ) (new : ToldDocument) (told : PositionNumbers) : Type 0 where
