@@ -16,7 +16,7 @@ use Rattle.caret.specs.declared.position.Position.{Position}
 use Rattle.caret.specs.Moves.{caret_under}
 use Rattle.caret.specs.Positions.{position_at, position_of, position_moved, IsPositionOf}
 use Rattle.live_document.specs.Cost.{weight_kept, IsLaidOut, IsWindowKept}
-use Rattle.live_document.specs.Documents.{whole_rows, window_round, IsDrawnAlike}
+use Rattle.live_document.specs.Documents.{LiveDocument, whole_rows, window_round, IsDrawnAlike}
 use Rattle.live_document.specs.Showing.{no_window}
 use Rattle.c_documents.specs.declared.told_document.ToldDocument.{ToldDocument}
 use Rattle.c_documents.specs.declared.numbers.ChangeNumbers.{ChangeNumbers}
@@ -168,7 +168,7 @@ pub record MayShow (old : ToldDocument) (place above below : ℕ) : Type 0 where
   pub few_above : above ≤ 1_000
   pub few_below : below ≤ 1_000
 
--- there was no memory for it, as there may be none where not all of it is kept: nothing is shown then, and nothing kept
+-- there was no memory for it, which only a window takes of which not all is kept: nothing is shown then, and nothing kept
 pub record IsRefusedMemory (old : ToldDocument) (place above below : ℕ) (new : ToldDocument) : Type 0 where
   pub may_show : MayShow old place above below
   pub not_kept : ¬ (IsWindowKept old.document place above below)
@@ -191,29 +191,45 @@ pub record IsPositionWritten (old : ToldDocument) (position : Position) (place a
   pub window : new.document.window ≡ window_round old.document place around around
   pub asked : IsAsked old new
 
--- the position of a place, or of a column in the row of a place
+-- the position of a place, or of a column in the row of a place; the row was laid out, unless it was kept
 abbrev pub IsPlaceWritten : ToldDocument → (place : ℕ) → ToldDocument → PositionNumbers → Type 0
 IsPlaceWritten old place new told =
-    (place ≤ length (visible old.document.desk.set)) × IsPositionWritten old (position_at (whole_rows old.document) place) place 0 new told
+    (place ≤ length (visible old.document.desk.set))
+    × IsLaidOut old.document new.document place 0 0
+    × IsPositionWritten old (position_at (whole_rows old.document) place) place 0 new told
 
 abbrev pub IsColumnWritten : ToldDocument → (place column : ℕ) → ToldDocument → PositionNumbers → Type 0
 IsColumnWritten old place column new told =
     (place ≤ length (visible old.document.desk.set))
+    × IsLaidOut old.document new.document place 0 0
     × IsPositionWritten old (position_of (whole_rows old.document) (caret_under (whole_rows old.document) (row_at (whole_rows old.document) place) column)) place 0 new told
 
--- why none was written: no memory, or no such place
+-- why none was written: no memory; no such place, and the document is as it was
 abbrev pub IsNoPlace : ToldDocument → (place : ℕ) → ToldDocument → (answer : ℕ) → Type 0
 IsNoPlace old place new answer =
-    (((answer ≡ 9) × (place ≤ length (visible old.document.desk.set))) ⊎ ((answer ≡ 107) × (length (visible old.document.desk.set) < place))) × IsAsked old new
+    ((answer ≡ 9) × (place ≤ length (visible old.document.desk.set)) × IsAsked old new)
+    ⊎ ((answer ≡ 107) × (length (visible old.document.desk.set) < place) × (new ≡ old))
+
+-- a caret's row was looked for: the row of this place was laid out, unless it was kept; or the text has no such place
+pub record IsRowSought (old new : LiveDocument) (place : ℕ) : Type 0 where
+  pub laid_out : place ≤ length (visible old.desk.set) → IsLaidOut old new place 0 0
+  pub outside : length (visible old.desk.set) < place → new.paragraphs ≡ old.paragraphs
+
+-- a caret's row was found, and then it was laid out with its neighbours, each unless it was kept
+abbrev pub AreNeighboursFound : (old new : LiveDocument) → (place : ℕ) → Type 0
+AreNeighboursFound old new place = (found : LiveDocument) × IsLaidOut old found place 0 0 × IsLaidOut found new place 1 1
 
 -- a caret of the text's grid was moved by this move
 abbrev pub IsMoved : (List DrawnRow → Caret → Caret) → ToldDocument → (from : PositionNumbers) → ToldDocument → (to : PositionNumbers) → Type 0
 IsMoved move old from new to =
     IsPositionOf (whole_rows old.document) (position_with from)
+    × AreNeighboursFound old.document new.document from.row
     × IsPositionWritten old (position_moved move (whole_rows old.document) (position_with from)) from.row 1 new to
 
 -- why it was not: no memory, which finding the row may take too, or the grid has no such row, or the row no such gap; it is as it
 -- was
 abbrev pub IsUnmoved : ToldDocument → (from : PositionNumbers) → ToldDocument → (to : PositionNumbers) → (answer : ℕ) → Type 0
 IsUnmoved old from new to answer =
-    ((answer ≡ 9) ⊎ ((answer ≡ 110) × (¬ (IsPositionOf (whole_rows old.document) (position_with from))))) × (to ≡ from) × IsAsked old new
+    ((answer ≡ 9) ⊎ ((answer ≡ 110) × (¬ (IsPositionOf (whole_rows old.document) (position_with from))) × IsRowSought old.document new.document from.row))
+    × (to ≡ from)
+    × IsAsked old new

@@ -1,10 +1,11 @@
 //! Carets in documents.
 
-ghost use Rattle.std.specs.Prelude.{◌≡◌, ◌⊎◌, ◌<◌, IfOk, IfErr};
+ghost use Rattle.std.specs.Prelude.{◌≡◌, ◌⊎◌, ◌<◌, OnOk, IfOk, IfErr};
 ghost use Rattle.caret.specs.Moves.{right_of, left_of, up_of, down_of};
 ghost use Rattle.caret.specs.Positions.{IsPositionOf};
+ghost use Rattle.live_document.specs.Cost.{IsLaidOut};
 ghost use Rattle.live_document.specs.Documents.{whole_rows};
-ghost use Rattle.c_documents.specs.Documents.{IsAsked, IsColumnWritten, IsMoved, IsNoPlace, IsPlaceWritten, IsUnmoved};
+ghost use Rattle.c_documents.specs.Documents.{IsAsked, IsColumnWritten, IsMoved, IsNoPlace, IsPlaceWritten, IsRowSought, IsUnmoved};
 ghost use Rattle.c_documents.specs.Numbers.{no_position, position_with};
 
 use crate::numbers::{PositionNumbers, no_position, position_numbers, position_with};
@@ -60,7 +61,8 @@ pub fn tell_position_under(
 fn standing(held: &mut ToldDocument, numbers: &PositionNumbers) -> Result<Position, u32>
     ensures is { IfOk result (λ position. position ≡ position_with numbers.now) }
     ensures stands { IfOk result (λ position. IsPositionOf (whole_rows held.old.document) position) }
-    ensures fault { IfErr result (λ fault. (fault ≡ 9) ⊎ ((fault ≡ 110) × (¬ (IsPositionOf (whole_rows held.old.document) (position_with numbers.now))))) }
+    ensures found { OnOk result (IsLaidOut held.old.document held.new.document numbers.now.row 0 0) }
+    ensures fault { IfErr result (λ fault. (fault ≡ 9) ⊎ ((fault ≡ 110) × (¬ (IsPositionOf (whole_rows held.old.document) (position_with numbers.now))) × IsRowSought held.old.document held.new.document numbers.now.row)) }
     ensures rows { whole_rows held.new.document ≡ whole_rows held.old.document }
     ensures asked { IsAsked held.old held.new }
 {
