@@ -10,11 +10,13 @@ use Rattle.rga_tree.specs.TextOf.{text, visible}
 use Rattle.text_buffer.specs.Edits.{cuts_at, puts_at}
 use Rattle.desk_replica.specs.Desk.{Desk}
 use Rattle.desk_replica.specs.declared.answer.TypeFault.TheVariants.{CounterSpent, Full}
-use Rattle.live_document.specs.Documents.{LiveDocument, IsDrawnAlike}
+use Rattle.live_document.specs.Documents.{LiveDocument}
 use Rattle.c_documents.specs.declared.told_document.ToldDocument.{ToldDocument}
 use Rattle.c_documents.specs.Changes.{edit_changes}
-use Rattle.c_desks.specs.Desks.{IsReplaced}
-use Rattle.c_documents.specs.Documents.{IsEdited, IsHidden}
+use Rattle.c_desks.specs.Desks.{HasRoomFor, IsReplaced}
+use Rattle.c_desks.specs.Keystrokes.{IsKeystroke}
+use Rattle.c_desks.specs.declared.keystroke.Keystroke.TheVariants.{Typed, Erased}
+use Rattle.c_documents.specs.Documents.{IsEditFollowed, IsEdited}
 
 -- ---- what the changes make of a text
 
@@ -83,16 +85,28 @@ module _ (old new : Desk) (from to : ℕ) (chs before after : List ℕ) (told : 
   pub edit_led : IsEdit (text old.set) (edit_changes from to chs) (text new.set)
   edit_led = subst (IsEdit (text old.set) (edit_changes from to chs)) (sym r.replaced) (edited from to chs (text old.set) r.order within)
 
+-- a keystroke is an edit from its place up to the end of what it erases
+pub typed_followed : (desk : Desk) (old new : LiveDocument) (from to ch room : ℕ) (chs : List ℕ) → HasRoomFor desk from to (length chs) room → IsKeystroke (to - from) chs (Typed ch)
+    → IsEditFollowed old from from new → IsEditFollowed old from to new
+typed_followed desk old new from to ch room chs has key followed =
+    let same : from ≡ to = omega (arith, key.0, has.order) in
+    subst (λ (end : ℕ). IsEditFollowed old from end new) same followed
+
+pub erased_followed : (old new : LiveDocument) (from to : ℕ) (chs : List ℕ) → IsKeystroke (to - from) chs Erased → IsEditFollowed old from (from + 1) new → IsEditFollowed old from to new
+erased_followed old new from to chs key followed =
+    let same : from + 1 ≡ to = omega (arith, key.0) in
+    subst (λ (end : ℕ). IsEditFollowed old from end new) same followed
+
 -- a change of a document that is told
-pub told_edit : (old mid new : ToldDocument) (from to : ℕ) (chs before after : List ℕ) (told : ℕ) → IsReplaced old.document.desk from to chs mid.document.desk before after told → IsHidden old mid
+pub told_edit : (old mid new : ToldDocument) (from to : ℕ) (chs before after : List ℕ) (told : ℕ) → IsReplaced old.document.desk from to chs mid.document.desk before after told → IsEditFollowed old.document from to mid.document
     → new.document ≡ mid.document → (new.lost ≡ false → new.told.items ≡ edit_changes from to chs)
     → IsReplaced old.document.desk from to chs new.document.desk before after told × IsEdited old from to chs new
-told_edit old mid new from to chs before after told r h same tells =
+told_edit old mid new from to chs before after told r followed same tells =
     let replaced = subst (λ (d : LiveDocument). IsReplaced old.document.desk from to chs d.desk before after told) (sym same) r in
     let led = edit_led old.document.desk new.document.desk from to chs before after told replaced in (
       replaced,
       record {
-        hidden = record { drawn = subst (IsDrawnAlike old.document) (sym same) h.drawn; hidden = ap (λ (d : LiveDocument). d.window) same ∙ h.hidden };
+        followed = subst (IsEditFollowed old.document from to) (sym same) followed;
         told = tells;
         edit = λ all. subst (λ (changes : List Change). IsEdit (text old.document.desk.set) changes (text new.document.desk.set)) (sym (tells all)) led;
       },

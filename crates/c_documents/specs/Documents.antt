@@ -15,7 +15,7 @@ use Rattle.caret.specs.declared.caret.Caret.{Caret}
 use Rattle.caret.specs.declared.position.Position.{Position}
 use Rattle.caret.specs.Moves.{caret_under}
 use Rattle.caret.specs.Positions.{position_at, position_of, position_moved, IsPositionOf}
-use Rattle.live_document.specs.Cost.{weight_kept, IsLaidOut, IsWindowKept}
+use Rattle.live_document.specs.Cost.{weight_kept, IsLaidOut, IsWindowKept, KeepsOthers}
 use Rattle.live_document.specs.Documents.{LiveDocument, whole_rows, window_round, IsDrawnAlike}
 use Rattle.live_document.specs.Showing.{no_window}
 use Rattle.c_documents.specs.declared.told_document.ToldDocument.{ToldDocument}
@@ -100,15 +100,17 @@ pub record IsPaidFor (old : ToldDocument) (operations : ℕ) (new : ToldDocument
 
 -- ---- edited
 
--- a document was changed: it is drawn as before, and nothing is shown
-pub record IsHidden (old new : ToldDocument) : Type 0 where
-  pub drawn : IsDrawnAlike old.document new.document
-  pub hidden : new.document.window ≡ no_window
+-- an edit from one place up to another was followed: the document is drawn as before, nothing is shown, and what is kept of the
+-- paragraphs stays that the edit didn't meet, unless there was no memory for that
+pub record IsEditFollowed (old : LiveDocument) (from to : ℕ) (new : LiveDocument) : Type 0 where
+  pub drawn : IsDrawnAlike old new
+  pub hidden : new.window ≡ no_window
+  pub kept : KeepsOthers old.paragraphs new.paragraphs from to
 
 -- a document was edited: these characters stand in the place of those from one place up to another. Unless there was no memory
 -- for it, it tells that as changes, and these lead from the text before to the text now
 pub record IsEdited (old : ToldDocument) (from to : ℕ) (typed : List ℕ) (new : ToldDocument) : Type 0 where
-  pub hidden : IsHidden old new
+  pub followed : IsEditFollowed old.document from to new.document
   pub told : new.lost ≡ false → new.told.items ≡ edit_changes from to typed
   pub edit : new.lost ≡ false → IsEdit (text old.document.desk.set) new.told.items (text new.document.desk.set)
 

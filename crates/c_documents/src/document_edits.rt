@@ -8,7 +8,7 @@ ghost use Rattle.rga_tree.specs.TextOf.{visible};
 ghost use Rattle.c_desks.specs.declared.keystroke.Keystroke.TheVariants.{Typed};
 ghost use Rattle.c_desks.specs.Keystrokes.{IsKeystroke};
 ghost use Rattle.c_desks.specs.Desks.{HasRoomFor, IsErased, IsReplaced, IsTyped, IsRefusedErasing, IsRefusedExchange, IsRefusedReplacing, IsUnerased, IsUnreplaced, IsUntyped, IsUnwritten};
-ghost use Rattle.c_documents.specs.Documents.{IsEdited, IsHidden};
+ghost use Rattle.c_documents.specs.Documents.{IsEditFollowed, IsEdited};
 
 use crate::told_document::ToldDocument;
 use c_answers::{COUNTER_SPENT, FULL, MEMORY, NOT_UTF8, OK};
@@ -78,7 +78,7 @@ fn exchange_in(
 }
 
 /// Puts a text in the place of characters. One character is typed or erased without memory for its message.
-#[tactic(auto, using(c_desks::proofs::Interface::erased_place, c_desks::proofs::Interface::erased_room, c_desks::proofs::Interface::erased_key, c_desks::proofs::Interface::unerased_exchange))]
+#[tactic(auto, using(c_desks::proofs::Interface::erased_place, c_desks::proofs::Interface::erased_room, c_desks::proofs::Interface::erased_key, c_desks::proofs::Interface::unerased_exchange, crate::proofs::Edited::erased_followed))]
 fn exchange_untold(
     alloc: Global,
     held: &mut ToldDocument,
@@ -88,7 +88,7 @@ fn exchange_untold(
     out: &mut [u8],
     size: &mut usize,
 ) -> u32
-    ensures ok { result ≡ 0 → IsReplaced held.old.document.desk from to (chars text.now) held.new.document.desk out.old out.new size.new × IsHidden held.old held.new }
+    ensures ok { result ≡ 0 → IsReplaced held.old.document.desk from to (chars text.now) held.new.document.desk out.old out.new size.new × IsEditFollowed held.old.document from to held.new.document }
     ensures err { (result ≡ 0 → ⊥) → (held.new ≡ held.old) × IsUnwritten out.old out.new size.new result }
     ensures fault { (result ≡ 0 → ⊥) → IsRefusedExchange held.old.document.desk from to (length (chars text.now)) (length out.old) size.new result }
 {
@@ -116,7 +116,7 @@ fn type_one_in(
     requires place { place ≤ length (visible held.old.document.desk.set) }
     requires room { 24 ≤ length out.old }
     ensures ok { result ≡ 0 → IsTyped held.old.document.desk place ch held.new.document.desk out.old out.new size.new }
-    ensures hidden { result ≡ 0 → IsHidden held.old held.new }
+    ensures followed { result ≡ 0 → IsEditFollowed held.old.document place place held.new.document }
     ensures err { (result ≡ 0 → ⊥) → (held.new ≡ held.old) × (out.new ≡ out.old) × (size.new ≡ size.old) }
     ensures fault { (result ≡ 0 → ⊥) → IsUntyped held.old.document.desk result }
 {
@@ -136,7 +136,7 @@ fn erase_one_in(held: &mut ToldDocument, place: usize, out: &mut [u8], size: &mu
     requires place { place < length (visible held.old.document.desk.set) }
     requires room { 14 ≤ length out.old }
     ensures ok { result ≡ 0 → IsErased held.old.document.desk place (place + 1) held.new.document.desk out.old out.new size.new }
-    ensures hidden { result ≡ 0 → IsHidden held.old held.new }
+    ensures followed { result ≡ 0 → IsEditFollowed held.old.document place (place + 1) held.new.document }
     ensures err { (result ≡ 0 → ⊥) → (held.new ≡ held.old) × (out.new ≡ out.old) × (size.new ≡ size.old) }
     ensures fault { (result ≡ 0 → ⊥) → IsUnerased held.old.document.desk result }
 {
@@ -162,7 +162,7 @@ fn type_key_in(
 ) -> u32
     requires room { HasRoomFor held.old.document.desk from to (length (chars text.now)) (length out.old) }
     requires key { IsKeystroke (to - from) (chars text.now) (Typed ch) }
-    ensures ok { result ≡ 0 → IsReplaced held.old.document.desk from to (chars text.now) held.new.document.desk out.old out.new size.new × IsHidden held.old held.new }
+    ensures ok { result ≡ 0 → IsReplaced held.old.document.desk from to (chars text.now) held.new.document.desk out.old out.new size.new × IsEditFollowed held.old.document from to held.new.document }
     ensures err { (result ≡ 0 → ⊥) → (held.new ≡ held.old) × (out.new ≡ out.old) × (size.new ≡ size.old) }
     ensures fault { (result ≡ 0 → ⊥) → IsRefusedExchange held.old.document.desk from to (length (chars text.now)) (length out.old) size.new result }
 {
@@ -182,7 +182,7 @@ fn exchange_many_in(
 ) -> u32
     requires room { HasRoomFor held.old.document.desk from to (length (chars text.now)) (length out.old) }
     requires many { (to - from) + length (chars text.now) ≡ 1 → ⊥ }
-    ensures ok { result ≡ 0 → IsReplaced held.old.document.desk from to (chars text.now) held.new.document.desk out.old out.new size.new × IsHidden held.old held.new }
+    ensures ok { result ≡ 0 → IsReplaced held.old.document.desk from to (chars text.now) held.new.document.desk out.old out.new size.new × IsEditFollowed held.old.document from to held.new.document }
     ensures err { (result ≡ 0 → ⊥) → (held.new ≡ held.old) × (out.new ≡ out.old) × (size.new ≡ size.old) }
     ensures fault { (result ≡ 0 → ⊥) → IsRefusedExchange held.old.document.desk from to (length (chars text.now)) (length out.old) size.new result }
 {
@@ -206,7 +206,7 @@ fn exchange_drafted_in(
     requires message { draft.message.items ≡ spelling [] }
     requires bytes { vec_len draft.message + 19 * ((to - from) + length (chars text.now)) ≤ vec_capacity draft.message }
     requires ops { draft.ops.items ≡ [] }
-    ensures ok { result ≡ 0 → IsReplaced held.old.document.desk from to (chars text.now) held.new.document.desk out.old out.new size.new × IsHidden held.old held.new }
+    ensures ok { result ≡ 0 → IsReplaced held.old.document.desk from to (chars text.now) held.new.document.desk out.old out.new size.new × IsEditFollowed held.old.document from to held.new.document }
     ensures err { (result ≡ 0 → ⊥) → (held.new ≡ held.old) × (out.new ≡ out.old) × (size.new ≡ size.old) }
     ensures fault { (result ≡ 0 → ⊥) → IsUnreplaced held.old.document.desk (to - from) (length (chars text.now)) result }
 {
