@@ -15,7 +15,7 @@ use Rattle.caret.specs.declared.caret.Caret.{Caret}
 use Rattle.caret.specs.declared.position.Position.{Position}
 use Rattle.caret.specs.Moves.{caret_under}
 use Rattle.caret.specs.Positions.{position_at, position_of, position_moved, IsPositionOf}
-use Rattle.live_document.specs.Cost.{weight_kept, IsLaidOut, IsWindowKept, KeepsOthers}
+use Rattle.live_document.specs.Cost.{weight_kept, IsLaidOut, IsWindowKept, IsBare, KeepsOthers, KeepsUnchanged, KeepsUntouched}
 use Rattle.live_document.specs.Documents.{LiveDocument, whole_rows, window_round, IsDrawnAlike}
 use Rattle.live_document.specs.Showing.{no_window}
 use Rattle.c_documents.specs.declared.told_document.ToldDocument.{ToldDocument}
@@ -117,7 +117,8 @@ pub record IsEdited (old : ToldDocument) (from to : ℕ) (typed : List ℕ) (new
 -- ---- taking and merging
 
 -- a document took the first operations of a list, as a desk does. Unless there was no memory to tell all, it tells of each of
--- them how the text changed, and these changes lead from the text before to the text now
+-- them how the text changed, these changes lead from the text before to the text now, and what is kept of the paragraphs stays that
+-- they didn't meet, unless there was no memory for that
 pub record IsTakenInTurn (old : ToldDocument) (ops : List OpView) (new : ToldDocument) (count answer : ℕ) : Type 0 where
   pub desk : IsTakenUpTo old.document.desk ops new.document.desk count answer
   pub drawn : IsDrawnAlike old.document new.document
@@ -125,6 +126,8 @@ pub record IsTakenInTurn (old : ToldDocument) (ops : List OpView) (new : ToldDoc
   pub hidden : 0 < count → new.document.window ≡ no_window
   pub told : new.lost ≡ false → AreTold old.document.desk.set (take count ops) [] new.told.items
   pub edit : new.lost ≡ false → IsEdit (text old.document.desk.set) new.told.items (text new.document.desk.set)
+  pub kept : new.lost ≡ false → KeepsUnchanged old.document.paragraphs new.document.paragraphs new.told.items
+  pub bare : new.lost ≡ true → IsBare new.document.paragraphs
 
 -- a message was taken: its bytes spell operations, taken in order as far as the answer says; or it was not read, the document
 -- is as it was, and nothing is told
@@ -133,14 +136,16 @@ IsHeard old bytes new told answer =
     ((ops : List OpView) × Spells bytes ops × (told.operations ≡ length ops) × (told.frame ≡ 0) × IsTakenInTurn old ops new told.taken answer)
     ⊎ ((new.document ≡ old.document) × IsSilent new × IsUnread bytes told answer)
 
--- a document met another one, as desks do, and nothing is shown. Unless there was no memory to tell all, it tells how the text
--- changed, and these changes lead from the text before to the text now
+-- a document met another one, as desks do; nothing is shown, and what is kept of the paragraphs stays that this didn't change, unless
+-- there was no memory for that. Unless there was none to tell all, it tells how the text changed, and these changes lead from the
+-- text before to the text now
 pub record IsMetWith (old : ToldDocument) (other : Desk) (new : ToldDocument) (answer : ℕ) : Type 0 where
   pub desk : IsMergedWith old.document.desk other new.document.desk answer
   pub drawn : IsDrawnAlike old.document new.document
   pub hidden : new.document.window ≡ no_window
   pub told : new.lost ≡ false → IsTold old.document.desk.set new.document.desk.set [] new.told.items
   pub edit : new.lost ≡ false → IsEdit (text old.document.desk.set) new.told.items (text new.document.desk.set)
+  pub kept : KeepsUntouched old.document new.document
 
 -- the changes that a document tells were listed; where there was no memory to tell all, the answer is 9, and none is
 abbrev pub AreChangesTold : ToldDocument → (before after : List ChangeNumbers) → (count answer : ℕ) → Type 0

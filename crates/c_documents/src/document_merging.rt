@@ -6,6 +6,7 @@ ghost use Rattle.bg_types.specs.Edit.{IsEdit};
 ghost use Rattle.rga_tree.specs.TextOf.{text};
 ghost use Rattle.desk_replica.specs.Merging.{IsMerge};
 ghost use Rattle.desk_replica.specs.Telling.{IsTold};
+ghost use Rattle.live_document.specs.Cost.{KeepsUntouched};
 ghost use Rattle.live_document.specs.Documents.{IsDrawnAlike};
 ghost use Rattle.live_document.specs.Showing.{no_window};
 ghost use Rattle.c_documents.specs.Documents.{IsMetWith};
@@ -40,13 +41,14 @@ fn merge_in(held: &mut ToldDocument, other: &Desk) -> u32
 }
 
 /// Lets a document take all that a desk has, and lists what it changes where there is memory to tell it.
-#[tactic(auto, using(crate::proofs::FromNone::told_once, crate::proofs::FromNone::all_edits))]
+#[tactic(auto, using(crate::proofs::FromNone::told_once, crate::proofs::FromNone::all_edits, crate::proofs::FromNone::untouched_once))]
 fn meet(held: &mut ToldDocument, other: &Desk) -> Result<u32, TakeFault>
     ensures desk { IsMerge held.old.document.desk other.now held.new.document.desk result }
     ensures drawn { IsDrawnAlike held.old.document held.new.document }
     ensures hidden { held.new.document.window ≡ no_window }
     ensures told { held.new.lost ≡ false → IsTold held.old.document.desk.set held.new.document.desk.set [] held.new.told.items }
     ensures edit { held.new.lost ≡ false → IsEdit (text held.old.document.desk.set) held.new.told.items (text held.new.document.desk.set) }
+    ensures kept { KeepsUntouched held.old.document held.new.document }
 {
     told_changes();
     held.forget();

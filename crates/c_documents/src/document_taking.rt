@@ -24,7 +24,7 @@ pub fn take_in(alloc: Global, held: &mut ToldDocument, bytes: &[u8], taken: &mut
 
 /// Lets a document take operations in order, up to the first that it refuses, writes how many it took, and lists what they
 /// changed.
-#[tactic(auto, using(crate::proofs::FromNone::all_told, crate::proofs::FromNone::all_edits))]
+#[tactic(auto, using(crate::proofs::FromNone::all_told, crate::proofs::FromNone::all_edits, crate::proofs::FromNone::all_kept))]
 fn take_all(held: &mut ToldDocument, ops: &[Op], taken: &mut usize) -> u32
     requires { IsSilent held.old }
     ensures { IsTakenInTurn held.old ops.now held.new taken.new result }
