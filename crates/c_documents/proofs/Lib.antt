@@ -1,3 +1,4 @@
 -- The modules of this crate's proofs.
 pub mod Edited
 pub mod FromNone
+pub mod Reserved

@@ -90,12 +90,7 @@ pub record KeepsRows (old : ToldDocument) (rows : ℕ) (new : ToldDocument) : Ty
 
 -- so many new operations are paid for; all else stays, what is shown and told too
 pub record IsPaidFor (old : ToldDocument) (operations : ℕ) (new : ToldDocument) : Type 0 where
-  pub set : new.document.desk.set ≡ old.document.desk.set
-  pub site : new.document.desk.site ≡ old.document.desk.site
-  pub waiting : new.document.desk.waiting ≡ old.document.desk.waiting
-  pub spare : new.document.desk.spare ≡ max old.document.desk.spare operations
-  pub drawn : IsDrawnAlike old.document new.document
-  pub shown : new.document.window ≡ old.document.window
+  pub document : new.document ≡ record old.document { desk = record old.document.desk { spare = max old.document.desk.spare operations } }
   pub alike : TellAlike old new
 
 -- ---- edited
