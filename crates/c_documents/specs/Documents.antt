@@ -15,7 +15,7 @@ use Rattle.caret.specs.declared.caret.Caret.{Caret}
 use Rattle.caret.specs.declared.position.Position.{Position}
 use Rattle.caret.specs.Moves.{caret_under}
 use Rattle.caret.specs.Positions.{position_at, position_of, position_moved, IsPositionOf}
-use Rattle.live_document.specs.Cost.{weight_kept, IsLaidOut, IsWindowKept, IsBare, KeepsOthers, KeepsUnchanged, KeepsUntouched}
+use Rattle.live_document.specs.Cost.{weight_kept, AreForgotten, IsLaidOut, IsWindowKept, IsBare, KeepsOthers, KeepsUnchanged, KeepsUntouched}
 use Rattle.live_document.specs.Documents.{LiveDocument, whole_rows, window_round, IsDrawnAlike}
 use Rattle.live_document.specs.Showing.{no_window}
 use Rattle.c_documents.specs.declared.told_document.ToldDocument.{ToldDocument}
@@ -73,12 +73,14 @@ IsNotOpened site width base file told answer =
     (IsNotMade site width base answer × (told ≡ none_taken 0))
     ⊎ ((left : Desk) × IsMessageTaken (fresh site) file left told answer)
 
--- a document is drawn at this width and base from now on, and nothing is shown; its desk and what it tells stay
+-- a document is drawn at this width and base from now on; nothing is shown then, and nothing kept of the same paragraphs. Its desk
+-- and what it tells stay
 pub record IsDrawnAt (old : ToldDocument) (width : ℕ) (base : Base) (new : ToldDocument) : Type 0 where
   pub desk : new.document.desk ≡ old.document.desk
   pub tables : new.document.tables ≡ old.document.tables
   pub width_is : new.document.width ≡ width
   pub base_is : new.document.base ≡ base
+  pub forgotten : AreForgotten old.document.paragraphs new.document.paragraphs
   pub most : new.document.most ≡ old.document.most
   pub hidden : new.document.window ≡ no_window
   pub alike : TellAlike old new
