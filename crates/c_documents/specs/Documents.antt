@@ -220,8 +220,10 @@ pub record IsRowSought (old new : LiveDocument) (place : ℕ) : Type 0 where
   pub outside : length (visible old.desk.set) < place → new.paragraphs ≡ old.paragraphs
 
 -- a caret's row was found, and then it was laid out with its neighbours, each unless it was kept
-abbrev pub AreNeighboursFound : (old new : LiveDocument) → (place : ℕ) → Type 0
-AreNeighboursFound old new place = (found : LiveDocument) × IsLaidOut old found place 0 0 × IsLaidOut found new place 1 1
+pub record AreNeighboursFound (old new : LiveDocument) (place : ℕ) : Type 0 where
+  pub found : LiveDocument
+  pub row : IsLaidOut old found place 0 0
+  pub neighbours : IsLaidOut found new place 1 1
 
 -- a caret of the text's grid was moved by this move
 abbrev pub IsMoved : (List DrawnRow → Caret → Caret) → ToldDocument → (from : PositionNumbers) → ToldDocument → (to : PositionNumbers) → Type 0
