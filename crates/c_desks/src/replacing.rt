@@ -1,8 +1,10 @@
 //! Typing a text, and putting one in the place of characters.
 
-ghost use Rattle.std.specs.Prelude.{◌≡◌, ◌+◌, ◌-◌, length};
+ghost use Rattle.std.specs.Prelude.{◌≡◌, ◌≤◌, ◌+◌, ◌-◌, ◌*◌, [], length, vec_len};
 ghost use Rattle.std.specs.Str.{chars, IsUtf8};
-ghost use Rattle.c_desks.specs.Desks.{HasRoomFor, IsReplaced, IsRefusedExchange, IsRefusedReplacing, IsUnwritten};
+ghost use Rattle.std.specs.Vec.{vec_capacity};
+ghost use Rattle.op_codec.specs.Spelling.{spelling};
+ghost use Rattle.c_desks.specs.Desks.{HasRoomFor, IsReplaced, IsRefusedExchange, IsRefusedReplacing, IsUnreplaced, IsUnwritten};
 
 use crate::desk::Desk;
 use crate::draft::{Draft, code_points, refusal_of};
@@ -77,9 +79,30 @@ fn exchange_many_in(
     ensures err { (result ≡ 0 → ⊥) → (desk.new ≡ desk.old) × (out.new ≡ out.old) × (size.new ≡ size.old) }
     ensures fault { (result ≡ 0 → ⊥) → IsRefusedExchange desk.old from to (length (chars text.now)) (length out.old) size.new result }
 {
-    let Ok(mut draft) = Draft::of(alloc, to - from + code_points(text)) else {
+    let Ok(draft) = Draft::of(alloc, to - from + code_points(text)) else {
         return MEMORY;
     };
+    exchange_drafted_in(desk, from, to, text, draft, out, size)
+}
+
+/// Puts a text in the place of characters. There is room for its message, in the buffer and in a draft of nothing yet.
+fn exchange_drafted_in(
+    desk: &mut Desk,
+    from: usize,
+    to: usize,
+    text: &str,
+    mut draft: Draft,
+    out: &mut [u8],
+    size: &mut usize,
+) -> u32
+    requires room { HasRoomFor desk.old from to (length (chars text.now)) (length out.old) }
+    requires message { draft.message.items ≡ spelling [] }
+    requires bytes { vec_len draft.message + 19 * ((to - from) + length (chars text.now)) ≤ vec_capacity draft.message }
+    requires ops { draft.ops.items ≡ [] }
+    ensures ok { result ≡ 0 → IsReplaced desk.old from to (chars text.now) desk.new out.old out.new size.new }
+    ensures err { (result ≡ 0 → ⊥) → (desk.new ≡ desk.old) × (out.new ≡ out.old) × (size.new ≡ size.old) }
+    ensures fault { (result ≡ 0 → ⊥) → IsUnreplaced desk.old (to - from) (length (chars text.now)) result }
+{
     match desk.replace(from, to, text, &mut draft.ops) {
         Ok(()) => {
             draft.write(out, size);
