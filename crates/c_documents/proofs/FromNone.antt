@@ -6,7 +6,6 @@ use Rattle.bg_types.specs.declared.change.Change.{Change}
 use Rattle.bg_types.specs.declared.op.OpView.{OpView}
 use Rattle.desk_replica.specs.Telling.{IsTold}
 use Rattle.desk_replica.specs.Taking.{AreTold}
-use Rattle.text_buffer.specs.Buffers.{KeptParagraph}
 use Rattle.live_document.specs.Cost.{KeepsUnchanged, KeepsUntouched}
 use Rattle.live_document.specs.Documents.{LiveDocument}
 
@@ -19,13 +18,13 @@ told_once s t old new none told = subst (λ (changes : List Change). IsTold s t 
 pub all_edits : (before after : List ℕ) (old new : List Change) → old ≡ [] → IsEdit before (drop (length old) new) after → IsEdit before new after
 all_edits before after old new none edit = subst (λ (changes : List Change). IsEdit before (drop (length changes) new) after) none edit
 
-pub all_kept : (before after : List (KeptParagraph ℕ)) (old new : List Change) → old ≡ [] → KeepsUnchanged before after (drop (length old) new) → KeepsUnchanged before after new
+pub all_kept : (before after : LiveDocument) (old new : List Change) → old ≡ [] → KeepsUnchanged before after (drop (length old) new) → KeepsUnchanged before after new
 all_kept before after old new none kept = subst (λ (changes : List Change). KeepsUnchanged before after (drop (length changes) new)) none kept
 
 pub untouched_once : (before after : LiveDocument) (old new : List Change) → old ≡ [] → IsTold before.desk.set after.desk.set old new
-    → KeepsUnchanged before.paragraphs after.paragraphs (drop (length old) new) → KeepsUntouched before after
+    → KeepsUnchanged before after (drop (length old) new) → KeepsUntouched before after
 untouched_once before after old new none told kept =
-    elim (all_kept before.paragraphs after.paragraphs old new none kept) [
-      | inl bare ↦ inl bare
+    elim (all_kept before after old new none kept) [
+      | inl behind ↦ inl behind
       | inr touched ↦ inr (new, told_once before.desk.set after.desk.set old new none told, touched)
     ]

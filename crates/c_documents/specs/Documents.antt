@@ -15,7 +15,7 @@ use Rattle.caret.specs.declared.caret.Caret.{Caret}
 use Rattle.caret.specs.declared.position.Position.{Position}
 use Rattle.caret.specs.Moves.{caret_under}
 use Rattle.caret.specs.Positions.{position_at, position_of, position_moved, IsPositionOf}
-use Rattle.live_document.specs.Cost.{weight_kept, AreForgotten, IsLaidOut, IsWindowKept, IsBare, KeepsOthers, KeepsUnchanged, KeepsUntouched}
+use Rattle.live_document.specs.Cost.{weight_kept, AreForgotten, IsLaidOut, IsWindowKept, IsBehind, KeepsOthers, KeepsUnchanged, KeepsUntouched}
 use Rattle.live_document.specs.Documents.{LiveDocument, whole_rows, window_round, IsDrawnAlike}
 use Rattle.live_document.specs.Showing.{no_window}
 use Rattle.c_documents.specs.declared.told_document.ToldDocument.{ToldDocument}
@@ -102,7 +102,7 @@ pub record IsPaidFor (old : ToldDocument) (operations : ℕ) (new : ToldDocument
 pub record IsEditFollowed (old : LiveDocument) (from to : ℕ) (new : LiveDocument) : Type 0 where
   pub drawn : IsDrawnAlike old new
   pub hidden : new.window ≡ no_window
-  pub kept : KeepsOthers old.paragraphs new.paragraphs from to
+  pub kept : KeepsOthers old new from to
 
 -- a document was edited: these characters stand in the place of those from one place up to another. Unless there was no memory
 -- for it, it tells that as changes, and these lead from the text before to the text now
@@ -123,8 +123,8 @@ pub record IsTakenInTurn (old : ToldDocument) (ops : List OpView) (new : ToldDoc
   pub hidden : 0 < count → new.document.window ≡ no_window
   pub told : new.lost ≡ false → AreTold old.document.desk.set (take count ops) [] new.told.items
   pub edit : new.lost ≡ false → IsEdit (text old.document.desk.set) new.told.items (text new.document.desk.set)
-  pub kept : new.lost ≡ false → KeepsUnchanged old.document.paragraphs new.document.paragraphs new.told.items
-  pub bare : new.lost ≡ true → IsBare new.document.paragraphs
+  pub kept : new.lost ≡ false → KeepsUnchanged old.document new.document new.told.items
+  pub behind : new.lost ≡ true → IsBehind new.document
 
 -- a message was taken: its bytes spell operations, taken in order as far as the answer says; or it was not read, the document
 -- is as it was, and nothing is told

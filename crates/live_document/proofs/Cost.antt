@@ -17,7 +17,7 @@ use Rattle.text_buffer.specs.Edits.{anew, IsParagraphOf, IsTouched, IsTouchedInT
 use Rattle.text_buffer.specs.declared.touched.Touched.{Touched}
 use Rattle.live_document.specs.Keeping.{Rows, KeptText, rows_weight, flags, is_kept}
 use Rattle.live_document.specs.Documents.{LiveDocument, counted, paragraphs_of, IsLive}
-use Rattle.live_document.specs.Cost.{HasRow, AreForgotten, IsBare, IsLaidOut, KeepsOthers, KeepsUnchanged, allowed, marks, unmarked, weight_kept, weight_outside, carried, stretch_marks}
+use Rattle.live_document.specs.Cost.{HasRow, AreForgotten, IsBare, IsLaidOut, allowed, marks, unmarked, weight_kept, weight_outside, carried, stretch_marks}
 use Rattle.live_document.specs.declared.shown.Shown.{Shown}
 use Rattle.live_document.proofs.Marks.{count-cons, cond-most}
 
@@ -209,22 +209,32 @@ unkept-behind false tables set kept behind k = absurd (behind refl)
 unkept-behind true tables set kept behind k =
     ap (λ ms. is_kept ms k) (marks-anew (paragraph_points tables (text set))) ∙ none-kept (length (paragraph_points tables (text set))) k
 
-module _ (tables : TableValues) (before after : OperationSet) (kept now : KeptText) where
+-- paragraphs are behind, or they came so from older ones
+abbrev OrBehind : (behind : Bool) → List (KeptParagraph ℕ) → (came : Type 0) → Type 0
+OrBehind behind ps came = ((behind ≡ true) × IsBare ps) ⊎ came
+
+module _ (tables : TableValues) (before after : OperationSet) (kept now : KeptText) (ps : List (KeptParagraph ℕ)) where
   -- an edit of the paragraphs is one of the document, or they are behind
-  pub keeps-others : (behind later : Bool) (from to : ℕ) → (later ≡ false → behind ≡ false) → (later ≡ false → (t : Touched) × IsTouched kept from to t now)
-      → KeepsOthers (paragraphs_of behind tables before kept) (paragraphs_of later tables after now) from to
-  keeps-others behind true from to follows touched = inl (bare-behind tables after now)
-  keeps-others true false from to follows touched = let e = follows refl in cc
-  keeps-others false false from to follows touched = let h = touched refl in inr (h.0, touched-counted kept now from to h.0 h.1)
+  pub keeps-others : (behind later : Bool) (from to : ℕ) → paragraphs_of behind tables before kept ≡ ps → (later ≡ false → behind ≡ false) → (later ≡ false → (t : Touched) × IsTouched kept from to t now)
+      → OrBehind later (paragraphs_of later tables after now) ((t : Touched) × IsTouched ps from to t (paragraphs_of later tables after now))
+  keeps-others behind true from to is follows touched = inl (refl, bare-behind tables after now)
+  keeps-others true false from to is follows touched = let e = follows refl in cc
+  keeps-others false false from to is follows touched =
+      let h = touched refl in
+      inr (h.0, subst (λ (old : List (KeptParagraph ℕ)). IsTouched old from to h.0 (map counted now)) is (touched-counted kept now from to h.0 h.1))
 
   -- so are changes
-  pub keeps-unchanged : (behind later : Bool) (changes : List Change) → (later ≡ false → behind ≡ false) → (later ≡ false → AreTouched kept changes now)
-      → KeepsUnchanged (paragraphs_of behind tables before kept) (paragraphs_of later tables after now) changes
-  keeps-unchanged behind true changes follows touched = inl (bare-behind tables after now)
-  keeps-unchanged true false changes follows touched = let e = follows refl in cc
-  keeps-unchanged false false changes follows touched =
+  pub keeps-unchanged : (behind later : Bool) (changes told : List Change) → paragraphs_of behind tables before kept ≡ ps → changes ≡ told → (later ≡ false → behind ≡ false) → (later ≡ false → AreTouched kept changes now)
+      → OrBehind later (paragraphs_of later tables after now) (AreTouched ps told (paragraphs_of later tables after now))
+  keeps-unchanged behind true changes told is same follows touched = inl (refl, bare-behind tables after now)
+  keeps-unchanged true false changes told is same follows touched = let e = follows refl in cc
+  keeps-unchanged false false changes told is same follows touched =
       let h = touched refl in
-      inr (record { steps = h.steps; all = h.all; touched = in_turn-counted kept now h.steps h.touched })
+      inr (record {
+        steps = h.steps;
+        all = sym same ∙ h.all;
+        touched = subst (λ (old : List (KeptParagraph ℕ)). IsTouchedInTurn old h.steps (map counted now)) is (in_turn-counted kept now h.steps h.touched);
+      })
 
 -- the paragraphs of a document are those of its desk's text
 pub texts-live : (desk : Desk) (tables : TableValues) (width : ℕ) (base : Base) (behind : Bool) (kept : KeptText) (s : Shown) (held : ℕ) → IsLive desk tables width base behind kept s held
@@ -269,6 +279,7 @@ laid-from mid old new place above below alike h = record {
   held = h.held;
   texts = h.texts;
   same = h.same ∙ ap paragraphs_in alike;
+  caught_up = h.caught_up;
 }
 
 -- so it is where it may not have been counted

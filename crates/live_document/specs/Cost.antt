@@ -82,6 +82,7 @@ pub record IsLaidOut (old new : LiveDocument) (place above below : ℕ) : Type 0
   pub held : (weight_kept new.paragraphs ≤ allowed new.most new.width (length new.window.rows)) ⊎ ((k : ℕ) → is_kept (marks new.paragraphs) k ≡ true → (first ≤ k) × (k < end))
   pub texts : paragraphs_in new.paragraphs ≡ paragraph_points new.tables (text new.desk.set)
   pub same : paragraphs_in new.paragraphs ≡ paragraphs_in old.paragraphs
+  pub caught_up : new.behind ≡ false
 
 -- ---- changes
 
@@ -93,17 +94,22 @@ IsBare paragraphs = paragraphs ≡ each anew (paragraphs_in paragraphs)
 abbrev pub AreForgotten : (old new : List (KeptParagraph ℕ)) → Type 0
 AreForgotten old new = new ≡ each anew (paragraphs_in old)
 
--- an edit made the paragraphs anew that it met, and what is kept of the others stays; or there was no memory for that
-abbrev pub KeepsOthers : (old new : List (KeptParagraph ℕ)) → (from to : ℕ) → Type 0
-KeepsOthers old new from to = IsBare new ⊎ ((touched : Touched) × IsTouched old from to touched new)
+-- the paragraphs are behind, and nothing is kept of them
+abbrev pub IsBehind : LiveDocument → Type 0
+IsBehind d = (d.behind ≡ true) × IsBare d.paragraphs
+
+-- an edit made the paragraphs anew that it met, and what is kept of the others stays; or there was no memory for that, and all are
+-- behind
+abbrev pub KeepsOthers : (old new : LiveDocument) → (from to : ℕ) → Type 0
+KeepsOthers old new from to = IsBehind new ⊎ ((touched : Touched) × IsTouched old.paragraphs from to touched new.paragraphs)
 
 -- so did changes, one after the other
-abbrev pub KeepsUnchanged : (old new : List (KeptParagraph ℕ)) → List Change → Type 0
-KeepsUnchanged old new changes = IsBare new ⊎ AreTouched old changes new
+abbrev pub KeepsUnchanged : (old new : LiveDocument) → List Change → Type 0
+KeepsUnchanged old new changes = IsBehind new ⊎ AreTouched old.paragraphs changes new.paragraphs
 
 -- so did those that are told of what a desk took
 abbrev pub KeepsUntouched : (old new : LiveDocument) → Type 0
-KeepsUntouched old new = IsBare new.paragraphs ⊎ ((changes : List Change) × IsTold old.desk.set new.desk.set [] changes × AreTouched old.paragraphs changes new.paragraphs)
+KeepsUntouched old new = IsBehind new ⊎ ((changes : List Change) × IsTold old.desk.set new.desk.set [] changes × AreTouched old.paragraphs changes new.paragraphs)
 
 -- marks after edits: what these make anew has none
 abbrev pub carried : List Step → List Bool → List Bool

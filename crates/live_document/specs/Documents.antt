@@ -1,6 +1,6 @@
 -- What a document is seen as.
 use Rattle.std.specs.Prelude.{◌≡◌, ◌≤◌, ◌⊎◌, ℕ, Bool, true, false, Option, List, refl, option_map, map as each, encode_utf8_all}
-use Rattle.std.specs.Coded.{Coded, code_by, coded×, coded_ℕ, coded_list, coded_option}
+use Rattle.std.specs.Coded.{Coded, code_by, coded×, coded_ℕ, coded_bool, coded_list, coded_option}
 use Rattle.bg_types.specs.declared.class.Base.{Base}
 use Rattle.bg_types.specs.contracts.class.Base.{the_row as base_row}
 use Rattle.unicode_tables.specs.Tables.{TableValues}
@@ -20,14 +20,16 @@ use Rattle.live_document.specs.Keeping.{Rows, KeptText, rows_weight, weight_held
 use Rattle.live_document.specs.Showing.{window_in, no_window, IsAtHand}
 
 -- a document: its desk; the tables, the width and the base that it is drawn at; the paragraphs of its text, each with what
--- the rows weigh that are kept of it, or nothing; how many rows may be kept, where a window doesn't need more; the window that is shown; how many
--- paragraphs the last window took to lay out
+-- the rows weigh that are kept of it, or nothing; whether they are behind, to be made anew by the next window, as those of a new
+-- document are and those that a change had no memory for: a caller sees it by `text_size`, which doesn't know the size then; how many
+-- rows may be kept, where a window doesn't need more; the window that is shown; how many paragraphs the last window took to lay out
 pub record LiveDocument : Type 0 where
   pub desk : Desk
   pub tables : TableValues
   pub width : ℕ
   pub base : Base
   pub paragraphs : List (KeptParagraph ℕ)
+  pub behind : Bool
   pub most : ℕ
   pub window : DrawnWindow
   pub laid : ℕ
@@ -77,9 +79,9 @@ paragraph_code = code_by (List ℕ × Option ℕ) (coded× (coded_list coded_ℕ
 -- a document is stored as the tuple of its parts
 abbrev pub live_code : Coded LiveDocument
 live_code =
-    code_by (Desk × (TableValues × (ℕ × (Base × (List (KeptParagraph ℕ) × (ℕ × ((List DrawnRow × ℕ) × ℕ)))))))
-    (coded× coded_desk (coded× tables_row.coded (coded× coded_ℕ (coded× base_row.coded (coded× (coded_list paragraph_code) (coded× coded_ℕ (coded× (coded× (coded_list drawn_row.coded) coded_ℕ) coded_ℕ)))))))
-    (λ d. (d.desk, (d.tables, (d.width, (d.base, (d.paragraphs, (d.most, ((d.window.rows, d.window.number), d.laid))))))))
+    code_by (Desk × (TableValues × (ℕ × (Base × (List (KeptParagraph ℕ) × (ℕ × ((List DrawnRow × ℕ) × (ℕ × Bool))))))))
+    (coded× coded_desk (coded× tables_row.coded (coded× coded_ℕ (coded× base_row.coded (coded× (coded_list paragraph_code) (coded× coded_ℕ (coded× (coded× (coded_list drawn_row.coded) coded_ℕ) (coded× coded_ℕ coded_bool))))))))
+    (λ d. (d.desk, (d.tables, (d.width, (d.base, (d.paragraphs, (d.most, ((d.window.rows, d.window.number), (d.laid, d.behind)))))))))
     (λ p. record {
       desk = p.0;
       tables = p.1.0;
@@ -88,7 +90,8 @@ live_code =
       paragraphs = p.1.1.1.1.0;
       most = p.1.1.1.1.1.0;
       window = record { rows = p.1.1.1.1.1.1.0.0; number = p.1.1.1.1.1.1.0.1 };
-      laid = p.1.1.1.1.1.1.1;
+      laid = p.1.1.1.1.1.1.1.0;
+      behind = p.1.1.1.1.1.1.1.1;
     })
     (λ _. refl)
 

@@ -1,7 +1,7 @@
 //! A text that a desk edits and that is shown by windows.
 
-ghost use Rattle.std.specs.Prelude.{◌≡◌, ◌≤◌, ◌<◌, ◌+◌, ◌-◌, ◌++◌, false, Some, max, take, drop, length, slice_get, All, OnOk, OnErr, IfOk, IfErr, IsOk, is_err, string_bytes, encode_utf8_all, vec_len, vec_capacity};
-ghost use Rattle.std.specs.Option.{IfSome};
+ghost use Rattle.std.specs.Prelude.{◌≡◌, ◌≤◌, ◌<◌, ◌+◌, ◌-◌, ◌++◌, true, false, Some, max, take, drop, length, slice_get, All, OnOk, OnErr, IfOk, IfErr, IsOk, is_err, string_bytes, encode_utf8_all, vec_len, vec_capacity};
+ghost use Rattle.std.specs.Option.{IfSome, MatchOption};
 ghost use Rattle.std.specs.Str.{chars};
 ghost use Rattle.bg_types.specs.OperationSet.{size, next};
 ghost use Rattle.bg_types.specs.WellFormed.{IsWellFormed};
@@ -79,6 +79,7 @@ impl Model for Document {
       width = d.width;
       base = d.base;
       paragraphs = paragraphs_of d.behind d.tables.value d.desk.set d.buffer;
+      behind = d.behind;
       most = d.most.rows;
       window = window_in d.buffer d.shown;
       laid = d.laid;
@@ -129,6 +130,7 @@ impl Document {
         ensures window { IfOk result (λ document. document.window ≡ no_window) }
         ensures most { IfOk result (λ document. document.most ≡ 0) }
         ensures laid { IfOk result (λ document. document.laid ≡ 0) }
+        ensures behind { IfOk result (λ document. document.behind ≡ true) }
     {
         let desk = Replica::new(alloc, site, Runs::fresh(alloc, key), key);
         Document::of(alloc, desk, tables, width, base)
@@ -153,6 +155,7 @@ impl Document {
         ensures window { IfOk result (λ document. document.window ≡ no_window) }
         ensures most { IfOk result (λ document. document.most ≡ 0) }
         ensures laid { IfOk result (λ document. document.laid ≡ 0) }
+        ensures behind { IfOk result (λ document. document.behind ≡ true) }
     {
         let buffer = buffer_of(alloc, &tables, "")?;
         Ok(Document {
@@ -183,6 +186,7 @@ impl Document {
         ensures drawn { IsDrawnAlike self.old self.new }
         ensures window { self.new.window ≡ self.old.window }
         ensures paragraphs { self.new.paragraphs ≡ self.old.paragraphs }
+        ensures behind { self.new.behind ≡ self.old.behind }
         ensures laid { self.new.laid ≡ self.old.laid }
     {
         self.desk.reserve(n)
@@ -249,7 +253,8 @@ impl Document {
     /// How many bytes its text has, where that is known without reading it: after `show`, until an edit has no memory for the
     /// paragraphs. Takes no memory.
     pub fn text_size(&self) -> Option<usize>
-        ensures { IfSome result (λ size. size ≡ length (encode_utf8_all (text self.now.desk.set))) }
+        ensures size { IfSome result (λ size. size ≡ length (encode_utf8_all (text self.now.desk.set))) }
+        ensures known { MatchOption result (self.now.behind ≡ true) (λ _. self.now.behind ≡ false) }
     {
         if self.behind {
             return None;
@@ -281,7 +286,7 @@ impl Document {
             → IfErr result (λ fault. fault ≡ TypeFault.Memory → self.old.desk.spare < length (chars characters.now)) }
         ensures drawn { IsDrawnAlike self.old self.new }
         ensures window { OnOk result (self.new.window ≡ no_window) }
-        ensures kept { OnOk result (KeepsOthers self.old.paragraphs self.new.paragraphs place place) }
+        ensures kept { OnOk result (KeepsOthers self.old self.new place place) }
         ensures laid { self.new.laid ≡ self.old.laid }
         ensures call { IsCall self.old (Types place (chars characters.now)) (is_err result) self.new }
     {
@@ -324,7 +329,7 @@ impl Document {
         ensures unpaid { vec_len made.old + (to - from) ≤ vec_capacity made.old → IfErr result (λ fault. fault ≡ TypeFault.Full) }
         ensures drawn { IsDrawnAlike self.old self.new }
         ensures window { OnOk result (self.new.window ≡ no_window) }
-        ensures kept { OnOk result (KeepsOthers self.old.paragraphs self.new.paragraphs from to) }
+        ensures kept { OnOk result (KeepsOthers self.old self.new from to) }
         ensures laid { self.new.laid ≡ self.old.laid }
         ensures call { IsCall self.old (Erases from to) (is_err result) self.new }
     {
@@ -363,7 +368,7 @@ impl Document {
             → IfErr result (λ fault. fault ≡ TypeFault.Memory → self.old.desk.spare < length (chars characters.now)) }
         ensures drawn { IsDrawnAlike self.old self.new }
         ensures window { OnOk result (self.new.window ≡ no_window) }
-        ensures kept { OnOk result (KeepsOthers self.old.paragraphs self.new.paragraphs from to) }
+        ensures kept { OnOk result (KeepsOthers self.old self.new from to) }
         ensures laid { self.new.laid ≡ self.old.laid }
         ensures call { IsCall self.old (Replaces from to (chars characters.now)) (is_err result) self.new }
     {

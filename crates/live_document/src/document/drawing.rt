@@ -23,6 +23,7 @@ impl Document {
         ensures most { self.new.most ≡ self.old.most }
         ensures window { self.new.window ≡ no_window }
         ensures forgotten { AreForgotten self.old.paragraphs self.new.paragraphs }
+        ensures behind { self.new.behind ≡ self.old.behind }
         ensures laid { self.new.laid ≡ self.old.laid }
         ensures call { IsCall self.old (Resizes width) false self.new }
     {
@@ -42,6 +43,7 @@ impl Document {
         ensures most { self.new.most ≡ self.old.most }
         ensures window { self.new.window ≡ no_window }
         ensures forgotten { AreForgotten self.old.paragraphs self.new.paragraphs }
+        ensures behind { self.new.behind ≡ self.old.behind }
         ensures laid { self.new.laid ≡ self.old.laid }
         ensures call { IsCall self.old (Turns base) false self.new }
     {

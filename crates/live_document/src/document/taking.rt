@@ -68,7 +68,7 @@ impl Document {
             → IfErr result (λ fault. fault ≡ TakeFault.Memory → (self.old.desk.spare ≡ 0) × (¬ (IsHiding self.old.desk.set op.now))) }
         ensures drawn { IsDrawnAlike self.old self.new }
         ensures window { OnOk result (self.new.window ≡ no_window) }
-        ensures kept { OnOk result (KeepsUnchanged self.old.paragraphs self.new.paragraphs (drop (length changes.old.items) changes.new.items)) }
+        ensures kept { OnOk result (KeepsUnchanged self.old self.new (drop (length changes.old.items) changes.new.items)) }
         ensures laid { self.new.laid ≡ self.old.laid }
         ensures call { IsCall self.old (Takes op.now) (is_err result) self.new }
     {
@@ -143,7 +143,7 @@ impl Document {
             → IfErr result (λ fault. fault ≡ TakeFault.Memory → self.old.desk.spare < size other.now.set) }
         ensures drawn { IsDrawnAlike self.old self.new }
         ensures window { self.new.window ≡ no_window }
-        ensures kept { KeepsUnchanged self.old.paragraphs self.new.paragraphs (drop (length changes.old.items) changes.new.items) }
+        ensures kept { KeepsUnchanged self.old self.new (drop (length changes.old.items) changes.new.items) }
         ensures laid { self.new.laid ≡ self.old.laid }
         ensures call { IsCall self.old (Merges other.now.set) (is_err result) self.new }
     {

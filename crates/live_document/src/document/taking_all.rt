@@ -5,7 +5,7 @@ ghost use Rattle.bg_types.specs.Edit.{IsEdit};
 ghost use Rattle.rga_tree.specs.TextOf.{text};
 ghost use Rattle.desk_replica.specs.Reply.{IsTake};
 ghost use Rattle.desk_replica.specs.Telling.{IsTold};
-ghost use Rattle.live_document.specs.Cost.{IsBare, KeepsUnchanged};
+ghost use Rattle.live_document.specs.Cost.{IsBehind, KeepsUnchanged};
 ghost use Rattle.live_document.specs.Documents.{IsDrawnAlike};
 ghost use Rattle.live_document.specs.Showing.{no_window};
 ghost use Rattle.desk_replica.specs.Taking.{AreTaken, AreTold, IsListPaid, IsRefusedNext};
@@ -47,9 +47,9 @@ impl Document {
         ensures none { result.taken ≡ 0 → self.new ≡ self.old }
         ensures drawn { IsDrawnAlike self.old self.new }
         ensures window { 0 < result.taken → self.new.window ≡ no_window }
-        ensures kept { result.told ≡ true → KeepsUnchanged self.old.paragraphs self.new.paragraphs (drop (length changes.old.items) changes.new.items) }
+        ensures kept { result.told ≡ true → KeepsUnchanged self.old self.new (drop (length changes.old.items) changes.new.items) }
         ensures laid { self.new.laid ≡ self.old.laid }
-        ensures bare { result.told ≡ false → IsBare self.new.paragraphs }
+        ensures behind { result.told ≡ false → IsBehind self.new }
     {
         told_changes();
         let told = changes.len();

@@ -34,7 +34,7 @@ impl Document {
         ensures unpaid { IfErr result (λ fault. fault ≡ TypeFault.Memory → self.old.desk.spare ≡ 0) }
         ensures drawn { IsDrawnAlike self.old self.new }
         ensures window { OnOk result (self.new.window ≡ no_window) }
-        ensures kept { OnOk result (KeepsOthers self.old.paragraphs self.new.paragraphs place place) }
+        ensures kept { OnOk result (KeepsOthers self.old self.new place place) }
         ensures laid { self.new.laid ≡ self.old.laid }
     {
         let op = self.desk.type_char(place, ch)?;
@@ -56,7 +56,7 @@ impl Document {
         ensures spare { size self.old.desk.set + self.old.desk.spare ≤ size self.new.desk.set + self.new.desk.spare }
         ensures drawn { IsDrawnAlike self.old self.new }
         ensures window { OnOk result (self.new.window ≡ no_window) }
-        ensures kept { OnOk result (KeepsOthers self.old.paragraphs self.new.paragraphs place (place + 1)) }
+        ensures kept { OnOk result (KeepsOthers self.old self.new place (place + 1)) }
         ensures laid { self.new.laid ≡ self.old.laid }
     {
         // A place before the text's end has one behind it.

@@ -5,8 +5,7 @@ use Rattle.unicode_tables.specs.Tables.{TableValues}
 use Rattle.text_buffer.specs.Buffers.{text_in}
 use Rattle.text_buffer.specs.Edits.{replaced}
 use Rattle.live_document.specs.Keeping.{StaysKept}
-use Rattle.live_document.specs.Documents.{LiveDocument, paragraphs_of}
-use Rattle.live_document.specs.Cost.{KeepsOthers}
+use Rattle.live_document.specs.Documents.{LiveDocument}
 use Rattle.live_document.proofs.Cost.{keeps-others}
 use Rattle.live_document.proofs.Followed.{live-followed}
 use Rattle.live_document.proofs.document.Document.erase_range.Goals as goal
@@ -22,5 +21,5 @@ pub returns-clause-kept : goal.returns-clause-kept
 returns-clause-kept c =
     let i = c.self.inside in
     let f = c.follow-self-inside in
-    subst (λ (d : LiveDocument). KeepsOthers d.paragraphs (paragraphs_of f.result i.tables.value c.erase_range.new.self.set f.new.buffer) c.args.from c.args.to) c.self.view_is
-    (keeps-others i.tables.value i.desk.set c.erase_range.new.self.set i.buffer f.new.buffer i.behind f.result c.args.from c.args.to f.ensures.before f.ensures.touched)
+    keeps-others i.tables.value i.desk.set c.erase_range.new.self.set i.buffer f.new.buffer c.args.self.now.paragraphs i.behind f.result c.args.from c.args.to (ap (λ (d : LiveDocument). d.paragraphs) c.self.view_is)
+    f.ensures.before f.ensures.touched

@@ -1,14 +1,12 @@
 -- The paragraphs follow the desk's text, or are behind it.
-use Rattle.std.proofs.Common.{◌≡◌, List, length, drop, arith, subst}
-use Rattle.bg_types.specs.declared.change.Change.{Change}
+use Rattle.std.proofs.Common.{◌≡◌, length, ap, arith, subst}
 use Rattle.std.specs.Prelude.{IfErr}
 use Rattle.rga_tree.specs.TextOf.{text}
 use Rattle.desk_replica.specs.Merging.{IsMergeRefused}
 use Rattle.unicode_tables.specs.Tables.{TableValues}
-use Rattle.live_document.specs.Documents.{LiveDocument, paragraphs_of}
+use Rattle.live_document.specs.Documents.{LiveDocument}
 use Rattle.live_document.specs.Keeping.{StaysKept}
 use Rattle.live_document.proofs.Followed.{told-behind, told-edit, live-range, live-told}
-use Rattle.live_document.specs.Cost.{KeepsUnchanged}
 use Rattle.live_document.proofs.Cost.{keeps-unchanged}
 use Rattle.live_document.proofs.document.Document.merge_telling.Goals as goal
 
@@ -47,6 +45,5 @@ returns-clause-kept c =
     let all = c.deref-2.result.now in
     let count : c.len-told.result ≡ length c.args.changes.now.items = omega (arith, c.len-told.ensures) in
     let told = told-behind c.args.changes.now.items t.new.changes.items all c.len-told.result count c.deref-2.ensures.value in
-    subst (λ (d : LiveDocument). KeepsUnchanged d.paragraphs (paragraphs_of f.result i.tables.value t.new.self.set f.new.buffer) (drop (length c.args.changes.now.items) t.new.changes.items)) c.self.view_is
-    (subst (λ (changes : List Change). KeepsUnchanged (paragraphs_of i.behind i.tables.value i.desk.set i.buffer) (paragraphs_of f.result i.tables.value t.new.self.set f.new.buffer) changes) told
-    (keeps-unchanged i.tables.value i.desk.set t.new.self.set i.buffer f.new.buffer i.behind f.result _ f.ensures.before f.ensures.touched))
+    keeps-unchanged i.tables.value i.desk.set t.new.self.set i.buffer f.new.buffer c.args.self.now.paragraphs i.behind f.result _ _ (ap (λ (d : LiveDocument). d.paragraphs) c.self.view_is) told
+    f.ensures.before f.ensures.touched

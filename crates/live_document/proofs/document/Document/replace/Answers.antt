@@ -1,12 +1,11 @@
 -- The paragraphs follow the desk's text, or are behind it.
-use Rattle.std.proofs.Common.{◌-◌, chars, subst}
+use Rattle.std.proofs.Common.{◌-◌, chars, ap, subst}
 use Rattle.std.specs.List.{All}
 use Rattle.bg_types.specs.WellFormed.{IsWellFormed}
 use Rattle.desk_replica.specs.Replacement.{replacement}
 use Rattle.unicode_tables.specs.Tables.{TableValues}
 use Rattle.live_document.specs.Keeping.{StaysKept}
-use Rattle.live_document.specs.Documents.{LiveDocument, paragraphs_of}
-use Rattle.live_document.specs.Cost.{KeepsOthers}
+use Rattle.live_document.specs.Documents.{LiveDocument}
 use Rattle.live_document.proofs.Cost.{keeps-others}
 use Rattle.live_document.proofs.Followed.{live-followed}
 use Rattle.live_document.proofs.document.Document.replace.Goals as goal
@@ -22,8 +21,8 @@ pub returns-clause-kept : goal.returns-clause-kept
 returns-clause-kept c =
     let i = c.self.inside in
     let f = c.follow-self-inside in
-    subst (λ (d : LiveDocument). KeepsOthers d.paragraphs (paragraphs_of f.result i.tables.value c.replace.new.self.set f.new.buffer) c.args.from c.args.to) c.self.view_is
-    (keeps-others i.tables.value i.desk.set c.replace.new.self.set i.buffer f.new.buffer i.behind f.result c.args.from c.args.to f.ensures.before f.ensures.touched)
+    keeps-others i.tables.value i.desk.set c.replace.new.self.set i.buffer f.new.buffer c.args.self.now.paragraphs i.behind f.result c.args.from c.args.to (ap (λ (d : LiveDocument). d.paragraphs) c.self.view_is)
+    f.ensures.before f.ensures.touched
 
 pub returns-clause-well_formed : goal.returns-clause-well_formed
 returns-clause-well_formed c =

@@ -1,5 +1,5 @@
 -- What is laid out is kept beside the paragraphs of the desk's text.
-use Rattle.std.proofs.Common.{◌≡◌, inl, inr, ℕ, List, length, map, arith, ap, ap₂, sym, subst, ◌∙◌}
+use Rattle.std.proofs.Common.{◌≡◌, inl, inr, ℕ, false, List, length, map, arith, refl, ap, ap₂, sym, subst, ◌∙◌}
 use Rattle.std.specs.List.{concat}
 use Rattle.paragraphs.specs.Paragraphs.{paragraph_points}
 use Rattle.rga_tree.specs.TextOf.{text}
@@ -39,7 +39,7 @@ returns-in-Ok-clause-laid c =
     let inside = slice-held after o.shown.first o.end in
     let size : length (window_in after o.shown).rows ≡ o.shown.count = window-size (rows_from after o.shown.first) o.shown.skip o.shown.count e.at_hand.enough in
     let count = ap (allowed i.most.rows i.width) size in
-    let new : LiveDocument = record { desk = i.desk; tables = i.tables.value; width = i.width; base = i.base; paragraphs = map counted after; most = i.most.rows; window = window_in after o.shown; laid = o.laid } in
+    let new : LiveDocument = record { desk = i.desk; tables = i.tables.value; width = i.width; base = i.base; paragraphs = map counted after; behind = false; most = i.most.rows; window = window_in after o.shown; laid = o.laid } in
     subst (λ (d : LiveDocument). IsLaidOut d new c.args.place c.args.above c.args.below) c.self.view_is
     (record {
       first = o.shown.first;
@@ -58,6 +58,7 @@ returns-in-Ok-clause-laid c =
       held = elim e.bounded [ inl few ↦ inl (omega (arith, few, kept-held after, count)) | inr none ↦ inr (λ k there. none k (sym (ap (λ ms. is_kept ms k) (marks-counted after)) ∙ there)) ];
       texts = texts;
       same = texts ∙ sym (texts-live i.desk i.tables.value i.width i.base i.behind i.buffer i.shown i.held c.self.invariant);
+      caught_up = refl;
     })
 
 pub invariant_of-self-in-Err : goal.invariant_of-self-in-Err

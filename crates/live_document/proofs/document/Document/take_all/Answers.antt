@@ -1,15 +1,13 @@
 -- The paragraphs follow all that was told, or are behind.
-use Rattle.std.proofs.Common.{◌≡◌, List, length, drop, take, subst, arith}
-use Rattle.bg_types.specs.declared.change.Change.{Change}
+use Rattle.std.proofs.Common.{◌≡◌, length, drop, take, refl, ap, subst, arith}
 use Rattle.std.proofs.lemmas.Bool.{not-false}
 use Rattle.bg_types.specs.Edit.{IsEdit}
 use Rattle.rga_tree.specs.TextOf.{text}
 use Rattle.unicode_tables.specs.Tables.{TableValues}
-use Rattle.live_document.specs.Documents.{LiveDocument, paragraphs_of}
+use Rattle.live_document.specs.Documents.{LiveDocument}
 use Rattle.live_document.specs.Keeping.{StaysKept}
 use Rattle.live_document.proofs.Followed.{told-behind, live-range, live-told}
 use Rattle.live_document.proofs.Taking.{edit_in_turn, edit_of_slice}
-use Rattle.live_document.specs.Cost.{KeepsUnchanged}
 use Rattle.live_document.proofs.Cost.{bare-behind, keeps-unchanged}
 use Rattle.live_document.proofs.document.Document.take_all.Goals as goal
 
@@ -49,9 +47,8 @@ returns-clause-kept c = λ is.
     let f = c.follow_all-self-inside in
     let count : c.len-told.result ≡ length c.args.changes.now.items = omega (arith, c.len-told.ensures) in
     let told = told-behind c.args.changes.now.items t.new.changes.items c.deref-2.result.now c.len-told.result count c.deref-2.ensures.value in
-    subst (λ (d : LiveDocument). KeepsUnchanged d.paragraphs (paragraphs_of f.result i.tables.value t.new.desk.set f.new.buffer) (drop (length c.args.changes.now.items) t.new.changes.items)) c.self.view_is
-    (subst (λ (changes : List Change). KeepsUnchanged (paragraphs_of i.behind i.tables.value i.desk.set i.buffer) (paragraphs_of f.result i.tables.value t.new.desk.set f.new.buffer) changes) told
-    (keeps-unchanged i.tables.value i.desk.set t.new.desk.set i.buffer f.new.buffer i.behind f.result _ f.ensures.before f.ensures.touched))
+    keeps-unchanged i.tables.value i.desk.set t.new.desk.set i.buffer f.new.buffer c.args.self.now.paragraphs i.behind f.result _ _ (ap (λ (d : LiveDocument). d.paragraphs) c.self.view_is) told
+    f.ensures.before f.ensures.touched
 
-pub returns-then-not-outcome-clause-bare : goal.returns-then-not-outcome-clause-bare
-returns-then-not-outcome-clause-bare c = λ is. (let i = c.self.inside in bare-behind i.tables.value c.take_each-outcome.new.desk.set i.buffer)
+pub returns-then-not-outcome-clause-behind : goal.returns-then-not-outcome-clause-behind
+returns-then-not-outcome-clause-behind c = λ is. (let i = c.self.inside in (refl, bare-behind i.tables.value c.take_each-outcome.new.desk.set i.buffer))

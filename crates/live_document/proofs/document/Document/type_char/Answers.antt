@@ -1,9 +1,8 @@
 -- The paragraphs follow the desk's text, or are behind it.
-use Rattle.std.proofs.Common.{[], ◌∷◌, subst}
+use Rattle.std.proofs.Common.{[], ◌∷◌, ap, subst}
 use Rattle.unicode_tables.specs.Tables.{TableValues}
 use Rattle.desk_replica.specs.Typing.{typed, IsTypedAt}
-use Rattle.live_document.specs.Cost.{KeepsOthers}
-use Rattle.live_document.specs.Documents.{LiveDocument, paragraphs_of}
+use Rattle.live_document.specs.Documents.{LiveDocument}
 use Rattle.live_document.specs.Keeping.{StaysKept}
 use Rattle.live_document.proofs.Cost.{keeps-others}
 use Rattle.live_document.proofs.Followed.{live-followed}
@@ -25,5 +24,5 @@ pub returns-clause-kept : goal.returns-clause-kept
 returns-clause-kept c =
     let i = c.self.inside in
     let f = c.follow_typed-self-inside in
-    subst (λ (d : LiveDocument). KeepsOthers d.paragraphs (paragraphs_of f.result i.tables.value c.type_char.new.self.set f.new.buffer) c.args.place c.args.place) c.self.view_is
-    (keeps-others i.tables.value i.desk.set c.type_char.new.self.set i.buffer f.new.buffer i.behind f.result c.args.place c.args.place f.ensures.before f.ensures.touched)
+    keeps-others i.tables.value i.desk.set c.type_char.new.self.set i.buffer f.new.buffer c.args.self.now.paragraphs i.behind f.result c.args.place c.args.place (ap (λ (d : LiveDocument). d.paragraphs) c.self.view_is)
+    f.ensures.before f.ensures.touched

@@ -1,10 +1,9 @@
 -- The paragraphs follow the desk's text, or are behind it.
-use Rattle.std.proofs.Common.{chars, subst}
+use Rattle.std.proofs.Common.{chars, ap, subst}
 use Rattle.std.specs.List.{All}
 use Rattle.bg_types.specs.WellFormed.{IsWellFormed}
 use Rattle.desk_replica.specs.Replacement.{typed_text}
-use Rattle.live_document.specs.Documents.{LiveDocument, paragraphs_of}
-use Rattle.live_document.specs.Cost.{KeepsOthers}
+use Rattle.live_document.specs.Documents.{LiveDocument}
 use Rattle.unicode_tables.specs.Tables.{TableValues}
 use Rattle.live_document.specs.Keeping.{StaysKept}
 use Rattle.live_document.proofs.Cost.{keeps-others}
@@ -26,5 +25,5 @@ pub returns-clause-kept : goal.returns-clause-kept
 returns-clause-kept c =
     let i = c.self.inside in
     let f = c.follow-self-inside in
-    subst (λ (d : LiveDocument). KeepsOthers d.paragraphs (paragraphs_of f.result i.tables.value c.type_text.new.self.set f.new.buffer) c.args.place c.args.place) c.self.view_is
-    (keeps-others i.tables.value i.desk.set c.type_text.new.self.set i.buffer f.new.buffer i.behind f.result c.args.place c.args.place f.ensures.before f.ensures.touched)
+    keeps-others i.tables.value i.desk.set c.type_text.new.self.set i.buffer f.new.buffer c.args.self.now.paragraphs i.behind f.result c.args.place c.args.place (ap (λ (d : LiveDocument). d.paragraphs) c.self.view_is)
+    f.ensures.before f.ensures.touched
