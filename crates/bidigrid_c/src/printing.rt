@@ -3,7 +3,7 @@
 ghost use Rattle.std.specs.Prelude.{◌≡◌, None, slice_get};
 ghost use Rattle.std.specs.Option.{IfSome, MatchOption};
 ghost use Rattle.cell_grid.specs.Print.{printed, printed_row, printed_sizes};
-ghost use Rattle.c_answers.specs.Copying.{AreSized, IsLeft, IsWritten};
+ghost use Rattle.c_answers.specs.Copying.{IsCopied, IsLeft, IsPrinted};
 
 use c_answers::EMPTY_HANDLE;
 use c_pictures::{PictureHandle, tell_entry_sizes, tell_print, tell_row_print};
@@ -17,7 +17,7 @@ pub extern "C" fn bidigrid_picture_print(
     out: &mut [u8],
     size: &mut usize,
 ) -> u32
-    ensures written { IfSome picture.old.held (λ g. IsWritten (printed g) out.old out.new size.new result) }
+    ensures written { IfSome picture.old.held (λ g. IsPrinted (printed g) out.old out.new size.new result) }
     ensures same { picture.new.held ≡ picture.old.held }
     ensures empty { picture.old.held ≡ None → (result ≡ 101) × IsLeft out.old out.new size.new }
 {
@@ -39,7 +39,7 @@ pub extern "C" fn bidigrid_picture_row_print(
     out: &mut [u8],
     size: &mut usize,
 ) -> u32
-    ensures written { IfSome picture.old.held (λ g. MatchOption (slice_get g.rows number) ((result ≡ 108) × IsLeft out.old out.new size.new) (λ _. IsWritten (printed_row g number) out.old out.new size.new result)) }
+    ensures written { IfSome picture.old.held (λ g. MatchOption (slice_get g.rows number) ((result ≡ 108) × IsLeft out.old out.new size.new) (λ _. IsPrinted (printed_row g number) out.old out.new size.new result)) }
     ensures same { picture.new.held ≡ picture.old.held }
     ensures empty { picture.old.held ≡ None → (result ≡ 101) × IsLeft out.old out.new size.new }
 {
@@ -61,7 +61,7 @@ pub extern "C" fn bidigrid_picture_entry_sizes(
     sizes: &mut [usize],
     count: &mut usize,
 ) -> u32
-    ensures written { IfSome picture.old.held (λ g. MatchOption (slice_get g.rows row) ((result ≡ 108) × IsLeft sizes.old sizes.new count.new) (λ _. AreSized (printed_sizes g row) sizes.old sizes.new count.new result)) }
+    ensures written { IfSome picture.old.held (λ g. MatchOption (slice_get g.rows row) ((result ≡ 108) × IsLeft sizes.old sizes.new count.new) (λ _. IsCopied (printed_sizes g row) sizes.old sizes.new count.new result)) }
     ensures same { picture.new.held ≡ picture.old.held }
     ensures empty { picture.old.held ≡ None → (result ≡ 101) × IsLeft sizes.old sizes.new count.new }
 {

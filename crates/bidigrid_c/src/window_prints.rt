@@ -4,7 +4,7 @@ ghost use Rattle.std.specs.Prelude.{◌≡◌, None, slice_get};
 ghost use Rattle.std.specs.Option.{IfSome, MatchOption};
 ghost use Rattle.cell_grid.specs.Print.{printed, printed_row, printed_sizes};
 ghost use Rattle.live_document.specs.Documents.{shown_grid};
-ghost use Rattle.c_answers.specs.Copying.{AreSized, IsLeft, IsWritten};
+ghost use Rattle.c_answers.specs.Copying.{IsCopied, IsLeft, IsPrinted};
 
 use c_answers::EMPTY_HANDLE;
 use c_documents::{DocumentHandle, tell_entry_sizes, tell_print, tell_row_print};
@@ -18,7 +18,7 @@ pub extern "C" fn bidigrid_document_print(
     out: &mut [u8],
     size: &mut usize,
 ) -> u32
-    ensures written { IfSome document.old.held (λ d. IsWritten (printed (shown_grid d.document)) out.old out.new size.new result) }
+    ensures written { IfSome document.old.held (λ d. IsPrinted (printed (shown_grid d.document)) out.old out.new size.new result) }
     ensures same { document.new.held ≡ document.old.held }
     ensures empty { document.old.held ≡ None → (result ≡ 101) × IsLeft out.old out.new size.new }
 {
@@ -40,7 +40,7 @@ pub extern "C" fn bidigrid_document_row_print(
     out: &mut [u8],
     size: &mut usize,
 ) -> u32
-    ensures written { IfSome document.old.held (λ d. MatchOption (slice_get d.document.window.rows number) ((result ≡ 108) × IsLeft out.old out.new size.new) (λ _. IsWritten (printed_row (shown_grid d.document) number) out.old out.new size.new result)) }
+    ensures written { IfSome document.old.held (λ d. MatchOption (slice_get d.document.window.rows number) ((result ≡ 108) × IsLeft out.old out.new size.new) (λ _. IsPrinted (printed_row (shown_grid d.document) number) out.old out.new size.new result)) }
     ensures same { document.new.held ≡ document.old.held }
     ensures empty { document.old.held ≡ None → (result ≡ 101) × IsLeft out.old out.new size.new }
 {
@@ -62,7 +62,7 @@ pub extern "C" fn bidigrid_document_entry_sizes(
     sizes: &mut [usize],
     count: &mut usize,
 ) -> u32
-    ensures written { IfSome document.old.held (λ d. MatchOption (slice_get d.document.window.rows row) ((result ≡ 108) × IsLeft sizes.old sizes.new count.new) (λ _. AreSized (printed_sizes (shown_grid d.document) row) sizes.old sizes.new count.new result)) }
+    ensures written { IfSome document.old.held (λ d. MatchOption (slice_get d.document.window.rows row) ((result ≡ 108) × IsLeft sizes.old sizes.new count.new) (λ _. IsCopied (printed_sizes (shown_grid d.document) row) sizes.old sizes.new count.new result)) }
     ensures same { document.new.held ≡ document.old.held }
     ensures empty { document.old.held ≡ None → (result ≡ 101) × IsLeft sizes.old sizes.new count.new }
 {

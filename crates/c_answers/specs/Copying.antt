@@ -1,5 +1,5 @@
 -- What a call leaves in a buffer of C.
-use Rattle.std.specs.Prelude.{◌≡◌, ◌⊎◌, ◌<◌, ◌≤◌, ℕ, List, ◌++◌, drop, length, map}
+use Rattle.std.specs.Prelude.{◌≡◌, ◌⊎◌, ◌<◌, ◌≤◌, ◌^◌, ℕ, List, ◌++◌, drop, length, map}
 
 -- the bytes were asked for: their number is written, and they are at the front of the buffer, if it has room for them; else the
 -- answer is 102, ShortBuffer, and the buffer is as it was
@@ -23,9 +23,11 @@ IsLeft before after size = (after ≡ before) × (size ≡ 0)
 abbrev pub IsWritten : (bytes before after : List ℕ) → (size answer : ℕ) → Type 0
 IsWritten bytes before after size answer = IsCopied bytes before after size answer ⊎ ((answer ≡ 9) × IsLeft before after size)
 
--- sizes were asked for: where one is more than can be counted, the answer is 9, Memory, and how many there are is written as 0
-abbrev pub AreSized : (sizes before after : List ℕ) → (count answer : ℕ) → Type 0
-AreSized sizes before after count answer = IsCopied sizes before after count answer ⊎ ((answer ≡ 9) × (count ≡ 0))
+-- a print was asked for, which takes memory to make: where it was refused, the answer is 9, Memory. Without a buffer its size alone
+-- was asked for, which takes none: 9 says that it is 2^64 or more
+abbrev pub IsPrinted : (bytes before after : List ℕ) → (size answer : ℕ) → Type 0
+IsPrinted bytes before after size answer =
+    IsCopied bytes before after size answer ⊎ ((answer ≡ 9) × IsLeft before after size × (length before ≡ 0 → 2 ^ 64 ≤ length bytes))
 
 -- how many bytes there are was written, with no buffer for them
 abbrev pub IsSize : (count size answer : ℕ) → Type 0

@@ -4,7 +4,7 @@ ghost use Rattle.std.specs.Prelude.{◌≡◌, slice_get};
 ghost use Rattle.std.specs.Option.{MatchOption};
 ghost use Rattle.cell_grid.specs.Print.{printed, printed_row, printed_sizes};
 ghost use Rattle.live_document.specs.Documents.{shown_grid};
-ghost use Rattle.c_answers.specs.Copying.{AreSized, IsLeft, IsWritten};
+ghost use Rattle.c_answers.specs.Copying.{IsCopied, IsLeft, IsPrinted};
 
 use crate::window_rows::row_shown;
 use c_answers::{BAD_ROW, MEMORY, OK, SHORT_BUFFER, copy_out};
@@ -14,9 +14,9 @@ use live_document::Document;
 use std::alloc::Global;
 
 /// Writes all rows that are shown: the cells of each in UTF-8, and a line feed after each.
-#[tactic(auto, using(c_pictures::proofs::Interface::written_nowhere))]
+#[tactic(auto, using(c_pictures::proofs::Interface::printed_nowhere))]
 pub fn tell_print(alloc: Global, document: &Document, out: &mut [u8], size: &mut usize) -> u32
-    ensures { IsWritten (printed (shown_grid document.now)) out.old out.new size.new result }
+    ensures { IsPrinted (printed (shown_grid document.now)) out.old out.new size.new result }
 {
     if out.is_empty() {
         return tell_size(document.print_size(), size);
@@ -30,7 +30,7 @@ pub fn tell_print(alloc: Global, document: &Document, out: &mut [u8], size: &mut
 }
 
 /// Writes a row that is shown: its cells in UTF-8, and a line feed.
-#[tactic(auto, using(c_pictures::proofs::Interface::written_nowhere))]
+#[tactic(auto, using(c_pictures::proofs::Interface::printed_nowhere))]
 pub fn tell_row_print(
     alloc: Global,
     document: &Document,
@@ -38,7 +38,7 @@ pub fn tell_row_print(
     out: &mut [u8],
     size: &mut usize,
 ) -> u32
-    ensures { MatchOption (slice_get document.now.window.rows number) ((result ≡ 108) × IsLeft out.old out.new size.new) (λ _. IsWritten (printed_row (shown_grid document.now) number) out.old out.new size.new result) }
+    ensures { MatchOption (slice_get document.now.window.rows number) ((result ≡ 108) × IsLeft out.old out.new size.new) (λ _. IsPrinted (printed_row (shown_grid document.now) number) out.old out.new size.new result) }
 {
     *size = 0;
     if number >= document.window().len() {
@@ -62,7 +62,7 @@ pub fn tell_entry_sizes(
     sizes: &mut [usize],
     count: &mut usize,
 ) -> u32
-    ensures { MatchOption (slice_get document.now.window.rows number) ((result ≡ 108) × IsLeft sizes.old sizes.new count.new) (λ _. AreSized (printed_sizes (shown_grid document.now) number) sizes.old sizes.new count.new result) }
+    ensures { MatchOption (slice_get document.now.window.rows number) ((result ≡ 108) × IsLeft sizes.old sizes.new count.new) (λ _. IsCopied (printed_sizes (shown_grid document.now) number) sizes.old sizes.new count.new result) }
 {
     *count = 0;
     let Some(row) = row_shown(document, number) else {
@@ -73,9 +73,7 @@ pub fn tell_entry_sizes(
         *count = entries;
         return SHORT_BUFFER;
     }
-    if document.row_entry_sizes(number, sizes).is_err() {
-        return MEMORY;
-    }
+    document.row_entry_sizes(number, sizes);
     *count = entries;
     OK
 }

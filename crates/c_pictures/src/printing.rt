@@ -3,16 +3,16 @@
 ghost use Rattle.std.specs.Prelude.{◌≡◌, slice_get, MatchResult};
 ghost use Rattle.std.specs.Option.{MatchOption};
 ghost use Rattle.cell_grid.specs.Print.{printed, printed_row, printed_sizes};
-ghost use Rattle.c_answers.specs.Copying.{AreSized, IsLeft, IsSize, IsWritten};
+ghost use Rattle.c_answers.specs.Copying.{IsCopied, IsLeft, IsPrinted, IsSize};
 
 use bg_types::Memory;
 use c_answers::{BAD_ROW, MEMORY, OK, SHORT_BUFFER, copy_out};
 use pictures::Picture;
 
 /// Writes a picture: the cells of each row in UTF-8, and a line feed after each.
-#[tactic(auto, using(crate::proofs::Sized::written_nowhere))]
+#[tactic(auto, using(crate::proofs::Sized::printed_nowhere))]
 pub fn tell_print(picture: &Picture, out: &mut [u8], size: &mut usize) -> u32
-    ensures { IsWritten (printed picture.now) out.old out.new size.new result }
+    ensures { IsPrinted (printed picture.now) out.old out.new size.new result }
 {
     *size = 0;
     if out.is_empty() {
@@ -45,9 +45,9 @@ pub fn tell_size(bytes: Result<usize, Memory>, size: &mut usize) -> u32
 }
 
 /// Writes a row: its cells in UTF-8, and a line feed.
-#[tactic(auto, using(crate::proofs::Sized::written_nowhere))]
+#[tactic(auto, using(crate::proofs::Sized::printed_nowhere))]
 pub fn tell_row_print(picture: &Picture, number: usize, out: &mut [u8], size: &mut usize) -> u32
-    ensures { MatchOption (slice_get picture.now.rows number) ((result ≡ 108) × IsLeft out.old out.new size.new) (λ _. IsWritten (printed_row picture.now number) out.old out.new size.new result) }
+    ensures { MatchOption (slice_get picture.now.rows number) ((result ≡ 108) × IsLeft out.old out.new size.new) (λ _. IsPrinted (printed_row picture.now number) out.old out.new size.new result) }
 {
     *size = 0;
     if number >= picture.rows().len() {
@@ -70,7 +70,7 @@ pub fn tell_entry_sizes(
     sizes: &mut [usize],
     count: &mut usize,
 ) -> u32
-    ensures { MatchOption (slice_get picture.now.rows number) ((result ≡ 108) × IsLeft sizes.old sizes.new count.new) (λ _. AreSized (printed_sizes picture.now number) sizes.old sizes.new count.new result) }
+    ensures { MatchOption (slice_get picture.now.rows number) ((result ≡ 108) × IsLeft sizes.old sizes.new count.new) (λ _. IsCopied (printed_sizes picture.now number) sizes.old sizes.new count.new result) }
 {
     *count = 0;
     let Some(row) = picture.rows().get(number) else {
@@ -81,9 +81,7 @@ pub fn tell_entry_sizes(
         *count = entries;
         return SHORT_BUFFER;
     }
-    if picture.row_entry_sizes(number, sizes).is_err() {
-        return MEMORY;
-    }
+    picture.row_entry_sizes(number, sizes);
     *count = entries;
     OK
 }

@@ -1,9 +1,10 @@
 -- How many bytes a row prints.
-use Rattle.std.proofs.Common.{◌≡◌, ◌<◌, ◌≤◌, ◌+◌, ◌-◌, ◌*◌, ℕ, zero, suc, List, [], ◌∷◌, ◌++◌, length, take, get_or, replicate, encode_utf8, flat_map, map, ap, ◌∙◌, arith, length-append}
+use Rattle.std.proofs.Common.{◌≡◌, ◌<◌, ◌≤◌, ◌+◌, ◌-◌, ◌*◌, ◌^◌, ℕ, zero, suc, Ok, Err, List, [], ◌∷◌, ◌++◌, length, take, get_or, replicate, encode_utf8, flat_map, map, ap, ◌∙◌, arith, length-append}
 use Rattle.std.proofs.lemmas.List.{length-replicate}
 use Rattle.std.proofs.lemmas.List.Concat.{flat_map-cons}
 use Rattle.std.proofs.lemmas.Str.{length-encode}
 use Rattle.std.specs.Char.{len_utf8}
+use Rattle.std.specs.Prelude.{Result, IsErr}
 use Rattle.std.specs.List.{range_with_len}
 use Rattle.unicode_tables.specs.Tables.{TableValues}
 use Rattle.cell_grid.specs.declared.cluster_run.ClusterRun.{ClusterRun}
@@ -12,7 +13,7 @@ use Rattle.cell_grid.specs.declared.cell.Cell.{Cell}
 use Rattle.cell_grid.specs.declared.cell.Cell.TheVariants.{Blank}
 use Rattle.cell_grid.specs.Cells.{entries_cells}
 use Rattle.cell_grid.specs.Rows.{DrawnRow}
-use Rattle.cell_grid.specs.Print.{slice_of, own_text, run_slices, cell_text, row_text}
+use Rattle.cell_grid.specs.Print.{slice_of, own_text, run_slices, cell_text, row_text, IsSizeOf}
 use Rattle.cell_grid.specs.Printable.{IsPrintable}
 use Rattle.cell_grid.specs.Runs.{run_span, byte_count, span_after, cluster_count, cluster_from_left, run_entry}
 use Rattle.cell_grid.proofs.Parts.{length-slice}
@@ -49,6 +50,11 @@ shown-size f points c =
     let n = length-encode (f c) in
     let more = ap length (shown-on f points c) ∙ length-append (shown f points) (encode_utf8 (f c)) in
     omega arith
+
+-- a print that is too long has no size
+pub too-long : {E : Type 0} (print : List ℕ) (answer : Result ℕ E) → IsErr answer → 2 ^ 64 ≤ length print → IsSizeOf print answer
+too-long print (Ok size) err long = cc
+too-long print (Err fault) err long = long
 
 -- ---- the clusters of a run as they stand in the text
 

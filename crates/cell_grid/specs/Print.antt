@@ -1,5 +1,5 @@
 -- Print of a grid: the cells' texts, each row ended by one LF.
-use Rattle.std.specs.Prelude.{ℕ, zero, suc, Bool, false, List, [], ◌∷◌, ◌++◌, map, length, replicate, slice_get, slice_range, Option, Some, None, encode_utf8_all, if◌then◌else◌}
+use Rattle.std.specs.Prelude.{◌≡◌, ◌≤◌, ◌^◌, ℕ, zero, suc, Bool, false, List, [], ◌∷◌, ◌++◌, map, length, replicate, slice_get, slice_range, Option, Some, None, Result, MatchResult, encode_utf8_all, if◌then◌else◌}
 use Rattle.std.specs.List.{flat_map}
 use Rattle.std.specs.Option.{option_map_or}
 use Rattle.bg_types.specs.declared.class.Base.{Base}
@@ -95,3 +95,7 @@ printed_sizes g number = option_map_or (own_sizes g.tables g.text) (slice_get g.
 -- print of the grid of a text at a width and a base
 abbrev pub shown : TableValues → (width : ℕ) → Base → List ℕ → List ℕ
 shown tables width base text = printed (grid_of tables width base text)
+
+-- how many bytes a print has was answered, or, where they are 2^64 or more, a fault
+abbrev pub IsSizeOf : {E : Type 0} → (print : List ℕ) → Result ℕ E → Type 0
+IsSizeOf print answer = MatchResult answer (λ size. size ≡ length print) (λ _. 2 ^ 64 ≤ length print)

@@ -1,5 +1,5 @@
 -- The row with a number, and how many bytes rows have, one after the other.
-use Rattle.std.proofs.Common.{◌≡◌, ◌<◌, ◌+◌, ℕ, zero, suc, Some, List, [], ◌∷◌, length, get_or, take, slice_get, refl, sym, ap, subst, ◌∙◌, add-one, length-append, arith}
+use Rattle.std.proofs.Common.{◌≡◌, ◌<◌, ◌≤◌, ◌+◌, ℕ, zero, suc, Some, List, [], ◌∷◌, length, get_or, take, slice_get, refl, sym, ap, subst, ◌∙◌, add-one, length-append, arith}
 use Rattle.std.proofs.lemmas.Option.{slice_get_read}
 use Rattle.std.specs.List.{All, flat_map}
 use Rattle.std.specs.Option.{option_map_or}
@@ -30,3 +30,10 @@ sized_suc f (r ∷ rows) (suc j) within = omega (
 pub sized_next : (f : DrawnRow → List ℕ) (rows : List DrawnRow) (j : ℕ) → j < length rows
     → length (flat_map f (take (j + 1) rows)) ≡ length (flat_map f (take j rows)) + length (option_map_or f (slice_get rows j) [])
 sized_next f rows j within = ap (λ n. length (flat_map f (take n rows))) (add-one j) ∙ sized_suc f rows j within
+
+-- all rows have at least as many bytes
+pub sized_within : (f : DrawnRow → List ℕ) (rows : List DrawnRow) (j : ℕ) → length (flat_map f (take j rows)) ≤ length (flat_map f rows)
+sized_within f [] zero = omega arith
+sized_within f [] (suc j) = omega arith
+sized_within f (r ∷ rows) zero = omega arith
+sized_within f (r ∷ rows) (suc j) = omega (arith, length-append (f r) (flat_map f (take j rows)), length-append (f r) (flat_map f rows), sized_within f rows j)

@@ -1,10 +1,10 @@
 //! A picture of a text.
 
-ghost use Rattle.std.specs.Prelude.{◌≡◌, ◌++◌, ◌<◌, ◌≤◌, drop, length, IfOk, OnOk};
+ghost use Rattle.std.specs.Prelude.{◌≡◌, ◌++◌, ◌<◌, ◌≤◌, drop, length, IfOk};
 ghost use Rattle.std.specs.Bool.{OnTrue, OnFalse};
 ghost use Rattle.std.specs.Str.{chars};
 ghost use Rattle.cell_grid.specs.Grids.{grid_of, IsDrawn};
-ghost use Rattle.cell_grid.specs.Print.{printed, printed_row, printed_sizes};
+ghost use Rattle.cell_grid.specs.Print.{printed, printed_row, printed_sizes, IsSizeOf};
 ghost use Rattle.caret.specs.Gaps.{IsCaretOf};
 ghost use Rattle.caret.specs.Places.{caret_at};
 
@@ -137,10 +137,10 @@ impl Picture {
         }
     }
 
-    /// How many bytes its print has. Takes no memory. `Memory` where they are more than can be counted.
+    /// How many bytes its print has. Takes no memory. `Memory` where they are 2^64 or more.
     /// Cost: that of `row_print_size` for each row.
     pub fn print_size(&self) -> Result<usize, Memory>
-        ensures { IfOk result (λ size. size ≡ length (printed self.now)) }
+        ensures { IsSizeOf (printed self.now) result }
     {
         let mut size = 0usize;
         for number in 0..self.rows().len() {
@@ -150,12 +150,12 @@ impl Picture {
         Ok(size)
     }
 
-    /// How many bytes the print of the row with this number has, counted from 0. Takes no memory. `Memory` where they are more
-    /// than can be counted.
+    /// How many bytes the print of the row with this number has, counted from 0. Takes no memory. `Memory` where they are
+    /// 2^64 or more.
     /// Cost: that of `cell_grid::row_print_size`.
     pub fn row_print_size(&self, number: usize) -> Result<usize, Memory>
         requires { number < length self.now.rows }
-        ensures { IfOk result (λ size. size ≡ length (printed_row self.now number)) }
+        ensures { IsSizeOf (printed_row self.now number) result }
     {
         entries_are_slices();
         row_print_size(self.tables(), self.text(), &self.rows()[number])
@@ -164,13 +164,13 @@ impl Picture {
     /// Answers how many bytes the cells of each entry of that row have in its print, as `cell_grid::row_entry_sizes` does, at
     /// the front of a list with room for them.
     /// Cost: that of `cell_grid::row_entry_sizes`.
-    pub fn row_entry_sizes(&self, number: usize, sizes: &mut [usize]) -> Result<(), Memory>
+    pub fn row_entry_sizes(&self, number: usize, sizes: &mut [usize])
         requires row { number < length self.now.rows }
         requires room { length (printed_sizes self.now number) ≤ length sizes.old }
-        ensures { OnOk result (sizes.new ≡ printed_sizes self.now number ++ drop (length (printed_sizes self.now number)) sizes.old) }
+        ensures { sizes.new ≡ printed_sizes self.now number ++ drop (length (printed_sizes self.now number)) sizes.old }
     {
         entries_are_slices();
-        row_entry_sizes(self.tables(), self.text(), &self.rows()[number], sizes)
+        row_entry_sizes(self.tables(), self.text(), &self.rows()[number], sizes);
     }
 
     /// The print of the row with this number, counted from 0, with its LF.

@@ -3,7 +3,7 @@
 ghost use Rattle.std.specs.Prelude.{◌≡◌, ◌++◌, ◌<◌, ◌≤◌, false, drop, length, is_err, IfOk, OnOk, OnErr};
 ghost use Rattle.std.specs.Io.KnownBytes.{Appends};
 ghost use Rattle.bg_types.specs.Sink.{AppendsBeginning};
-ghost use Rattle.cell_grid.specs.Print.{printed, printed_row, printed_sizes};
+ghost use Rattle.cell_grid.specs.Print.{printed, printed_row, printed_sizes, IsSizeOf};
 ghost use Rattle.live_document.specs.Documents.{shown_grid};
 
 use crate::document::Document;
@@ -37,10 +37,10 @@ impl Document {
         Ok(())
     }
 
-    /// How many bytes `print` writes. Takes no memory. `Memory` where they are more than can be counted.
+    /// How many bytes `print` writes. Takes no memory. `Memory` where they are 2^64 or more.
     /// Cost: that of `Window::rows` and `row_print_size` for each row.
     pub fn print_size(&self) -> Result<usize, Memory>
-        ensures { IfOk result (λ size. size ≡ length (printed (shown_grid self.now))) }
+        ensures { IsSizeOf (printed (shown_grid self.now)) result }
     {
         // The text has no more bytes than it may.
         let _bytes = self.buffer.bytes();
@@ -72,11 +72,11 @@ impl Document {
         print_row(&self.tables, own.text, own.row, sink)
     }
 
-    /// How many bytes `print_row` writes. Takes no memory. `Memory` where they are more than can be counted.
+    /// How many bytes `print_row` writes. Takes no memory. `Memory` where they are 2^64 or more.
     /// Cost: that of `Window::row` and `row_print_size`.
     pub fn row_print_size(&self, number: usize) -> Result<usize, Memory>
         requires { number < length self.now.window.rows }
-        ensures { IfOk result (λ size. size ≡ length (printed_row (shown_grid self.now) number)) }
+        ensures { IsSizeOf (printed_row (shown_grid self.now) number) result }
     {
         let own = text_shown(&self.buffer, self.shown, number);
         row_print_size(&self.tables, own.text, own.row)
@@ -85,12 +85,12 @@ impl Document {
     /// Answers how many bytes the cells of each entry of a row that is shown have in what `print_row` writes, as
     /// `cell_grid::row_entry_sizes` does, at the front of a list with room for them.
     /// Cost: that of `Window::row` and `row_entry_sizes`.
-    pub fn row_entry_sizes(&self, number: usize, sizes: &mut [usize]) -> Result<(), Memory>
+    pub fn row_entry_sizes(&self, number: usize, sizes: &mut [usize])
         requires row { number < length self.now.window.rows }
         requires room { length (printed_sizes (shown_grid self.now) number) ≤ length sizes.old }
-        ensures { OnOk result (sizes.new ≡ printed_sizes (shown_grid self.now) number ++ drop (length (printed_sizes (shown_grid self.now) number)) sizes.old) }
+        ensures { sizes.new ≡ printed_sizes (shown_grid self.now) number ++ drop (length (printed_sizes (shown_grid self.now) number)) sizes.old }
     {
         let own = text_shown(&self.buffer, self.shown, number);
-        row_entry_sizes(&self.tables, own.text, own.row, sizes)
+        row_entry_sizes(&self.tables, own.text, own.row, sizes);
     }
 }

@@ -4,7 +4,7 @@ use Rattle.std.specs.Prelude.{Option}
 use Rattle.std.specs.Option.{IfSome, MatchOption}
 use Rattle.cell_grid.specs.Print.{printed_row}
 use Rattle.live_document.specs.Documents.{shown_grid}
-use Rattle.c_answers.specs.Copying.{IsLeft, IsWritten}
+use Rattle.c_answers.specs.Copying.{IsLeft, IsPrinted}
 use Rattle.c_documents.specs.declared.told_document.ToldDocument.{ToldDocument}
 use Rattle.bidigrid_c.proofs.window_prints.bidigrid_document_row_print.Goals as goal
 
@@ -14,5 +14,5 @@ returns-clause-written c =
     let number = c.args.number in
     let before = c.args.out.now in
     subst (λ (o : Option ToldDocument). IfSome o (λ d. MatchOption (slice_get d.document.window.rows number) ((it.result ≡ 108) × IsLeft before it.new.out it.new.size)
-    (λ _. IsWritten (printed_row (shown_grid d.document) number) before it.new.out it.new.size it.result)))
+    (λ _. IsPrinted (printed_row (shown_grid d.document) number) before it.new.out it.new.size it.result)))
     (ap Some c.deref.ensures ∙ sym c.in-Some.ensures.taken) it.ensures

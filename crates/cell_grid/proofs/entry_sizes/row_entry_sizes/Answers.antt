@@ -33,7 +33,7 @@ loop-entry-preserved c =
     let within : number < length entries = omega (arith, turn.0, counted) in
     let room : length entries < length c.args.sizes.now + 1 = omega (arith, c.requires.room) in
     let more = length_push c.loop-entry.yielded c.in-Some.entry in
-    let size = c.in_ok-sizes.ensures ∙ ap f is in
+    let size = c.cells_size.ensures.size ∙ ap f is in
     record {
       counted = omega (arith, counted, more);
       written = (λ i. set (c.loop-entry.invariant.written i) number (size i)) ∙ filled_next f entries c.args.sizes.now number c.in-Some.entry within room;

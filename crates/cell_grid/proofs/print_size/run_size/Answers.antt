@@ -30,28 +30,36 @@ returns-then-prints_its_clusters c =
 pub overflow_cast-number : goal.overflow_cast-number
 overflow_cast-number c = let most = c.count-number-end.ensures.most in record { fits = omega arith }
 
-pub entry-entry-requires : goal.entry-entry-requires
-entry-entry-requires c =
+pub entry-requires : goal.entry-requires
+entry-requires c =
     let count = c.count-number-end.ensures.number in
     let fits = c.requires.columns in
     record { within = omega arith; reach = c.requires.reach; fits = omega arith }
 
-pub cells_size-requires : goal.cells_size-requires
-cells_size-requires c =
+pub cells_size-size-requires : goal.cells_size-size-requires
+cells_size-size-requires c =
     let count = c.count-number-end.ensures.number in
-    entry-slice c.args.text.now c.args.run.now c.requires c.loop-number.number c.entry-entry.result (omega arith) c.entry-entry.ensures
+    entry-slice c.args.text.now c.args.run.now c.requires c.loop-number.number c.entry.result (omega arith) c.entry.ensures
+
+pub overflow_add-size : goal.overflow_add-size
+overflow_add-size c =
+    let count = c.count-number-end.ensures.most in
+    omega (arith, count, c.loop-number.invariant.most, c.cells_size-size.ensures.most)
 
 pub loop-number-preserved : goal.loop-number-preserved
 loop-number-preserved c =
     let text = c.args.text.now in
     let r = c.args.run.now in
     let n = c.loop-number.number in
-    let e = c.entry-entry.result in
+    let e = c.entry.result in
     let count = c.count-number-end.ensures.number in
     let lt : n < cluster_count r = omega arith in
-    let more = pieces-size (own_text c.args.tables.now text) (run_entries 0 r) n e e (entry-within text r n lt) (entry-read text r n e e lt c.entry-entry.ensures) in
-    let sum = rw c.in_ok-size.ensures.ok_part at c.checked_add.ensures in
-    omega (arith, sum.1, c.in_ok-own.ensures, c.loop-number.invariant, more)
+    let more = pieces-size (own_text c.args.tables.now text) (run_entries 0 r) n e e (entry-within text r n lt) (entry-read text r n e e lt c.entry.ensures) in
+    let own = c.cells_size-size.ensures in
+    record {
+      counted = omega (arith, own.size, c.loop-number.invariant.counted, more);
+      most = omega (arith, own.most, c.loop-number.invariant.most);
+    }
 
 pub returns : goal.returns
 returns c =
@@ -59,4 +67,4 @@ returns c =
     let count = c.count-number-end.ensures.number in
     let len = length-run_entries 0 r in
     let all : length (run_entries 0 r) ≤ c.loop-number.number = omega arith in
-    c.loop-number.invariant ∙ ap (λ l. length (flat_map (own_text c.args.tables.now c.args.text.now) l)) (take-whole (run_entries 0 r) c.loop-number.number all)
+    c.loop-number.invariant.counted ∙ ap (λ l. length (flat_map (own_text c.args.tables.now c.args.text.now) l)) (take-whole (run_entries 0 r) c.loop-number.number all)

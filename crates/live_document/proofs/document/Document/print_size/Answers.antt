@@ -1,10 +1,10 @@
 -- One row after the other.
-use Rattle.std.proofs.Common.{◌≡◌, ◌<◌, ◌+◌, length, drop, get_or, take, flat_map, refl, sym, ap, ap₂, ◌∙◌, arith, length-append}
+use Rattle.std.proofs.Common.{◌≡◌, ◌<◌, ◌+◌, ◌++◌, length, drop, get_or, take, flat_map, refl, sym, ap, ap₂, ◌∙◌, arith, length-append}
 use Rattle.std.specs.Prelude.{encode_utf8_all}
 use Rattle.unicode_tables.specs.Tables.{TableValues}
 use Rattle.rga_tree.specs.TextOf.{text}
-use Rattle.cell_grid.specs.Print.{printed_row, row_text}
-use Rattle.cell_grid.proofs.Interface.{flat_map-take_next, take-whole}
+use Rattle.cell_grid.specs.Print.{printed, printed_row, row_text}
+use Rattle.cell_grid.proofs.Interface.{flat_map-split_at, flat_map-take_next, take-whole, too-long}
 use Rattle.live_document.specs.Documents.{LiveDocument, shown_grid}
 use Rattle.live_document.specs.Showing.{rows_from, shown_in}
 use Rattle.live_document.proofs.Cursors.{inside-there, reading-there}
@@ -82,6 +82,63 @@ loop-preserved c =
           ∙ ap (λ m. drop m (rows_from start.paragraphs start.number)) next;
       so_far = omega (arith, sum.1, c.in_ok-more.ensures, h.so_far, ap length is, more, two);
     }
+
+pub returns-in_err-more : goal.returns-in_err-more
+returns-in_err-more c =
+    let i = c.self.inside in
+    let s = i.shown in
+    let d = c.args.self.now in
+    let n = c.loop.counter in
+    let h = c.loop.invariant in
+    let e = c.go_to_row-number.ensures in
+    let p = c.cursor-cursor.ensures in
+    let own = c.text_under-own.result in
+    let T = c.deref.result.now in
+    let same = e.same ∙ h.same ∙ ap (drop (s.skip + n)) (ap₂ rows_from p.paragraphs p.number) in
+    let size = window-size (rows_from i.buffer s.first) s.skip s.count c.self.invariant.at_hand.enough in
+    let seen = ap (λ (d : LiveDocument). length d.window.rows) c.self.view_is in
+    let within : n < length d.window.rows = omega (arith, c.loop-test.true, size, seen) in
+    let is = row-piece (shown_grid d) n (row_text T own.text.now own.row.now) within
+    (sym (ap (λ (t : TableValues). printed_row (shown_in t i.buffer s) n) c.deref.ensures
+    ∙ live-seen (row_text i.tables.value) i.desk i.tables.value i.width i.base i.behind i.buffer s i.held n c.self.invariant
+    ∙ ap (λ (d : LiveDocument). printed_row (shown_grid d) n) c.self.view_is)
+    ∙ shown-there T i.buffer s c.go_to_row-number.new.cursor (e.paragraphs ∙ h.paragraphs ∙ p.paragraphs) c.go_to_row-number.result n c.loop-test.true same
+    ∙ c.text_under-own.ensures.alike T) in
+    let f = row_text d.tables (encode_utf8_all (text d.desk.set)) in
+    let split = ap length (flat_map-split_at f d.window.rows n (get_or d.window.rows n a_row) a_row within refl) in
+    let front = length-append (flat_map f (take n d.window.rows)) (f (get_or d.window.rows n a_row) ++ flat_map f (drop (n + 1) d.window.rows)) in
+    let back = length-append (f (get_or d.window.rows n a_row)) (flat_map f (drop (n + 1) d.window.rows)) in
+    too-long (printed (shown_grid d)) c.from_residual.result c.from_residual.ensures.0
+    (omega (arith, c.in_err-more.ensures, ap length is, split, front, back))
+
+pub returns-in_err-size : goal.returns-in_err-size
+returns-in_err-size c =
+    let i = c.self.inside in
+    let s = i.shown in
+    let d = c.args.self.now in
+    let n = c.loop.counter in
+    let h = c.loop.invariant in
+    let e = c.go_to_row-number.ensures in
+    let p = c.cursor-cursor.ensures in
+    let own = c.text_under-own.result in
+    let T = c.deref.result.now in
+    let same = e.same ∙ h.same ∙ ap (drop (s.skip + n)) (ap₂ rows_from p.paragraphs p.number) in
+    let size = window-size (rows_from i.buffer s.first) s.skip s.count c.self.invariant.at_hand.enough in
+    let seen = ap (λ (d : LiveDocument). length d.window.rows) c.self.view_is in
+    let within : n < length d.window.rows = omega (arith, c.loop-test.true, size, seen) in
+    let is = row-piece (shown_grid d) n (row_text T own.text.now own.row.now) within
+    (sym (ap (λ (t : TableValues). printed_row (shown_in t i.buffer s) n) c.deref.ensures
+    ∙ live-seen (row_text i.tables.value) i.desk i.tables.value i.width i.base i.behind i.buffer s i.held n c.self.invariant
+    ∙ ap (λ (d : LiveDocument). printed_row (shown_grid d) n) c.self.view_is)
+    ∙ shown-there T i.buffer s c.go_to_row-number.new.cursor (e.paragraphs ∙ h.paragraphs ∙ p.paragraphs) c.go_to_row-number.result n c.loop-test.true same
+    ∙ c.text_under-own.ensures.alike T) in
+    let f = row_text d.tables (encode_utf8_all (text d.desk.set)) in
+    let split = ap length (flat_map-split_at f d.window.rows n (get_or d.window.rows n a_row) a_row within refl) in
+    let front = length-append (flat_map f (take n d.window.rows)) (f (get_or d.window.rows n a_row) ++ flat_map f (drop (n + 1) d.window.rows)) in
+    let back = length-append (f (get_or d.window.rows n a_row)) (flat_map f (drop (n + 1) d.window.rows)) in
+    let sum = rw c.in_err-size.ensures.ok_part at c.checked_add.ensures in
+    too-long (printed (shown_grid d)) c.from_residual-in_err-size.result c.from_residual-in_err-size.ensures.0
+    (omega (arith, sum, c.in_ok-more.ensures, h.so_far, ap length is, split, front, back))
 
 pub returns : goal.returns
 returns c =

@@ -1,7 +1,6 @@
 -- What is shown is of the desk's text.
 use Rattle.std.proofs.Common.{◌≡◌, ◌++◌, ℕ, List, drop, length, sym, ap, subst, ◌∙◌, arith}
 use Rattle.std.proofs.lemmas.List.{length-map}
-use Rattle.std.specs.Prelude.{OnOk}
 use Rattle.unicode_tables.specs.Tables.{TableValues}
 use Rattle.cell_grid.specs.declared.entry.Entry.{Entry}
 use Rattle.cell_grid.specs.Print.{own_sizes, own_text, printed_sizes}
@@ -47,5 +46,5 @@ returns c =
     ∙ live-seen (own_sizes i.tables.value) i.desk i.tables.value i.width i.base i.behind i.buffer i.shown i.held n c.self.invariant
     ∙ ap (λ (d : LiveDocument). printed_sizes (shown_grid d) n) c.self.view_is in
     let count : length own.row.now.entries ≡ length (own_sizes T own.text.now own.row.now) = sym (length-map own.row.now.entries (λ (e : Entry). length (own_text T own.text.now e))) in
-    let told = subst (λ m. OnOk c.row_entry_sizes.result (c.row_entry_sizes.new.sizes ≡ own_sizes T own.text.now own.row.now ++ drop m c.args.sizes.now)) count c.row_entry_sizes.ensures in
-    subst (λ (ns : List ℕ). OnOk c.row_entry_sizes.result (c.row_entry_sizes.new.sizes ≡ ns ++ drop (length ns) c.args.sizes.now)) is told
+    let told = subst (λ m. c.row_entry_sizes.new.sizes ≡ own_sizes T own.text.now own.row.now ++ drop m c.args.sizes.now) count c.row_entry_sizes.ensures in
+    subst (λ (ns : List ℕ). c.row_entry_sizes.new.sizes ≡ ns ++ drop (length ns) c.args.sizes.now) is told

@@ -1,8 +1,7 @@
 -- What is shown is of the desk's text.
-use Rattle.std.proofs.Common.{◌≡◌, length, sym, ap, subst, ◌∙◌, arith}
-use Rattle.std.specs.Prelude.{IfOk}
+use Rattle.std.proofs.Common.{length, sym, ap, subst, ◌∙◌, arith}
 use Rattle.unicode_tables.specs.Tables.{TableValues}
-use Rattle.cell_grid.specs.Print.{printed_row, row_text}
+use Rattle.cell_grid.specs.Print.{printed_row, row_text, IsSizeOf}
 use Rattle.live_document.specs.Documents.{LiveDocument, shown_grid}
 use Rattle.live_document.specs.Showing.{rows_from, shown_in}
 use Rattle.live_document.proofs.Followed.{live-readable}
@@ -29,4 +28,4 @@ returns c =
     ∙ ap (λ (t : TableValues). printed_row (shown_in t i.buffer i.shown) n) c.deref.ensures
     ∙ live-seen (row_text i.tables.value) i.desk i.tables.value i.width i.base i.behind i.buffer i.shown i.held n c.self.invariant
     ∙ ap (λ (d : LiveDocument). printed_row (shown_grid d) n) c.self.view_is in
-    subst (λ t. IfOk c.row_print_size.result (λ size. size ≡ length t)) is c.row_print_size.ensures
+    subst (λ t. IsSizeOf t c.row_print_size.result) is c.row_print_size.ensures

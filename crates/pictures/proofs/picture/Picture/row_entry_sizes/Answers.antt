@@ -2,7 +2,6 @@
 use Rattle.std.proofs.Common.{◌≡◌, ◌++◌, ℕ, List, [], drop, length, Option, sym, ap, subst, arith}
 use Rattle.std.proofs.lemmas.List.{length-map}
 use Rattle.std.specs.Option.{option_map_or}
-use Rattle.std.specs.Prelude.{OnOk}
 use Rattle.unicode_tables.specs.Tables.{TableValues}
 use Rattle.cell_grid.specs.declared.entry.Entry.{Entry}
 use Rattle.cell_grid.specs.Rows.{DrawnRow}
@@ -31,7 +30,7 @@ returns c =
     let old = c.args.sizes.now in
     let new = c.row_entry_sizes.new.sizes in
     let is = row-there c.rows.result.now g.rows c.args.number r c.rows.ensures.rows c.requires.row c.index-rows-number.is in
-    let by_text = subst (λ (x : List ℕ). OnOk c.row_entry_sizes.result (new ≡ own_sizes c.tables.result.now x r ++ drop (length r.entries) old)) c.text.ensures c.row_entry_sizes.ensures in
-    let by_tables = subst (λ (t : TableValues). OnOk c.row_entry_sizes.result (new ≡ own_sizes t g.text r ++ drop (length r.entries) old)) c.tables.ensures by_text in
-    let by_count = subst (λ n. OnOk c.row_entry_sizes.result (new ≡ own_sizes g.tables g.text r ++ drop n old)) (sym (length-map r.entries (λ (e : Entry). length (own_text g.tables g.text e)))) by_tables in
-    subst (λ (l : List ℕ). OnOk c.row_entry_sizes.result (new ≡ l ++ drop (length l) old)) (sym (ap (λ (o : Option DrawnRow). option_map_or (own_sizes g.tables g.text) o []) is)) by_count
+    let by_text = subst (λ (x : List ℕ). new ≡ own_sizes c.tables.result.now x r ++ drop (length r.entries) old) c.text.ensures c.row_entry_sizes.ensures in
+    let by_tables = subst (λ (t : TableValues). new ≡ own_sizes t g.text r ++ drop (length r.entries) old) c.tables.ensures by_text in
+    let by_count = subst (λ n. new ≡ own_sizes g.tables g.text r ++ drop n old) (sym (length-map r.entries (λ (e : Entry). length (own_text g.tables g.text e)))) by_tables in
+    subst (λ (l : List ℕ). new ≡ l ++ drop (length l) old) (sym (ap (λ (o : Option DrawnRow). option_map_or (own_sizes g.tables g.text) o []) is)) by_count
