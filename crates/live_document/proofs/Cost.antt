@@ -234,6 +234,7 @@ module _ (tables : TableValues) (before after : OperationSet) (kept now : KeptTe
         steps = h.steps;
         all = sym same ∙ h.all;
         touched = subst (λ (old : List (KeptParagraph ℕ)). IsTouchedInTurn old h.steps (map counted now)) is (in_turn-counted kept now h.steps h.touched);
+        whole = h.whole;
       })
 
 -- the paragraphs of a document are those of its desk's text

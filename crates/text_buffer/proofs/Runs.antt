@@ -1,5 +1,5 @@
 -- Changes one after the other, and runs of them that are one edit.
-use Rattle.std.proofs.Common.{◌≡◌, ℕ, zero, suc, ◌+◌, ◌-◌, ◌<◌, ◌≤◌, List, [], ◌∷◌, ◌++◌, length, take, drop, get_or, add-zero, zero-add, refl, sym, ap, ap₂, subst, ◌∙◌, arith}
+use Rattle.std.proofs.Common.{◌≡◌, ℕ, zero, suc, ◌+◌, ◌-◌, ◌<◌, ◌≤◌, List, [], ◌∷◌, ◌++◌, length, take, drop, get_or, flat_map, add-zero, zero-add, refl, sym, ap, ap₂, subst, ◌∙◌, arith}
 use Rattle.std.proofs.lemmas.List.{append-nil, append_assoc, length-append, length-drop, length-take-le, take_at, drop_at, take_more, take_all, take_rest, drop_more, drop-drop, take-append-drop}
 use Rattle.std.proofs.lemmas.List.Concat.{flat_map-append}
 use Rattle.std.proofs.Math.Seq.{drop-append-add}
@@ -8,8 +8,8 @@ use Rattle.bg_types.specs.declared.change.Change.TheVariants.{Put, Cut}
 use Rattle.bg_types.specs.Edit.{changed, IsInRange, IsEdit}
 use Rattle.unicode_tables.specs.Tables.{TableValues}
 use Rattle.text_buffer.specs.Buffers.{KeptParagraph, paragraphs_in, text_in, IsSplit}
-use Rattle.text_buffer.specs.Edits.{replaced, place_of, all_changed, AreInRange, cuts_at, puts_at, changes_of, Step, IsTouched, IsTouchedInTurn, AreTouched}
-use Rattle.text_buffer.specs.Runs.{BeginsLow, ArePut, IsStepOf}
+use Rattle.text_buffer.specs.Edits.{replaced, place_of, all_changed, AreInRange, cuts_at, puts_at, changes_of, EndsBefore, Step, IsTouched, IsTouchedInTurn, AreTouched, AreWhole}
+use Rattle.text_buffer.specs.Runs.{BeginsLow, ArePut, CutsNotAt, IsStepOf, PutsNotAt}
 
 -- ---- some, and then others
 
@@ -133,18 +133,39 @@ put-more changes i p old new next d c within a is more =
 
 -- ---- steps
 
+ends-front : (from : ℕ) (points : List ℕ) (xs ys : List Change) → EndsBefore from points (xs ++ ys) → EndsBefore from points xs
+ends-front from points [] ys e = tt
+ends-front from points (x ∷ xs) ys e = e
+
+whole-front : (steps : List Step) (later : List Change) → AreWhole steps later → AreWhole steps []
+whole-front [] later h = tt
+whole-front (s ∷ steps) later h =
+    let behind = flat_map changes_of steps in
+    (subst (EndsBefore s.from s.points) (sym (append-nil behind)) (ends-front s.from s.points behind later h.0), whole-front steps later h.1)
+
+whole-more : (steps : List Step) (s : Step) (later : List Change) → AreWhole steps (changes_of s ++ later) → EndsBefore s.from s.points later → AreWhole (steps ++ s ∷ []) later
+whole-more [] s later h e = (e, tt)
+whole-more (x ∷ steps) s later h e =
+    let behind = flat_map changes_of steps in
+    let both = ap (λ t. behind ++ t) (sym (append-nil (changes_of s))) ∙ sym (flat_map-append changes_of steps (s ∷ [])) in
+    (subst (EndsBefore x.from x.points) (sym (append_assoc behind (changes_of s) later) ∙ ap (λ t. t ++ later) both) h.0, whole-more steps s later h.1 e)
+
 module _ {K : Type 0} where
   steps-more : (steps : List Step) (old mid new : List (KeptParagraph K)) (s : Step) → IsTouchedInTurn old steps mid → IsTouched mid s.from s.to s.touched new → IsTouchedInTurn old (steps ++ s ∷ []) new
   steps-more [] old mid new s e t = (new, subst (λ o. IsTouched o s.from s.to s.touched new) e t, refl)
   steps-more (x ∷ xs) old mid new s h t = (h.0, h.1, steps-more xs h.0 mid new s h.2 t)
 
-  pub touched-more : (old mid new : List (KeptParagraph K)) (changes run : List Change) → AreTouched old changes mid → IsStepOf mid run new → AreTouched old (changes ++ run) new
-  touched-more old mid new changes run a s =
-      record {
-        steps = a.steps ++ s.step ∷ [];
-        all = ap₂ (λ x y. x ++ y) a.all (s.is ∙ sym (append-nil (changes_of s.step))) ∙ sym (flat_map-append changes_of a.steps (s.step ∷ []));
-        touched = steps-more a.steps old mid new s.step a.touched s.touched;
-      }
+  module _ (old mid new : List (KeptParagraph K)) (changes run later : List Change) (a : AreTouched old changes mid) (goes : AreWhole a.steps (run ++ later)) (s : IsStepOf mid run later new) where
+    pub whole-further : AreWhole (a.steps ++ s.step ∷ []) later
+    whole-further = whole-more a.steps s.step later (subst (λ r. AreWhole a.steps (r ++ later)) s.is goes) s.whole
+
+    pub touched-more : AreTouched old (changes ++ run) new
+    touched-more = record {
+      steps = a.steps ++ s.step ∷ [];
+      all = ap₂ (λ x y. x ++ y) a.all (s.is ∙ sym (append-nil (changes_of s.step))) ∙ sym (flat_map-append changes_of a.steps (s.step ∷ []));
+      touched = steps-more a.steps old mid new s.step a.touched s.touched;
+      whole = whole-front (a.steps ++ s.step ∷ []) later whole-further;
+    }
 
 -- ---- changes that are under way
 
@@ -155,6 +176,7 @@ pub record IsUnderWay {K : Type 0} (tables : TableValues) (old : List (KeptParag
   pub text : text_in now ≡ all_changed (text_in old) (take made changes)
   pub places : AreInRange (text_in now) (drop made changes)
   pub touched : AreTouched old (take made changes) now
+  pub whole : AreWhole touched.steps (drop made changes)
 
 take-further : (changes : List Change) (made n : ℕ) → take (made + n) changes ≡ take made changes ++ take n (drop made changes)
 take-further changes zero n = ap (λ k. take k changes) (zero-add n)
@@ -169,7 +191,7 @@ take-further (c ∷ cs) (suc made) n =
 module _ {K : Type 0} (tables : TableValues) (old : List (KeptParagraph K)) (changes : List Change) where
   pub way-begun : IsSplit tables (paragraphs_in old) → AreInRange (text_in old) changes → IsUnderWay tables old changes old 0
   way-begun split range =
-      record { within = omega arith; split = split; text = refl; places = range; touched = record { steps = []; all = refl; touched = refl } }
+      record { within = omega arith; split = split; text = refl; places = range; touched = record { steps = []; all = refl; touched = refl; whole = tt }; whole = tt }
 
   pub way-text : (now : List (KeptParagraph K)) (made n : ℕ) → IsUnderWay tables old changes now made → all_changed (text_in now) (take n (drop made changes)) ≡ all_changed (text_in old) (take (made + n) changes)
   way-text now made n w =
@@ -177,25 +199,30 @@ module _ {K : Type 0} (tables : TableValues) (old : List (KeptParagraph K)) (cha
       ap (λ t. all_changed t run) w.text ∙ sym (changed-both (take made changes) run (text_in old)) ∙ ap (all_changed (text_in old)) (sym (take-further changes made n))
 
   way-further : (now next : List (KeptParagraph K)) (made n : ℕ) → IsUnderWay tables old changes now made → n ≤ length (drop made changes) → text_in next ≡ all_changed (text_in now) (take n (drop made changes))
-      → AreInRange (text_in next) (drop n (drop made changes)) → IsSplit tables (paragraphs_in next) → IsStepOf now (take n (drop made changes)) next → IsUnderWay tables old changes next (made + n)
+      → AreInRange (text_in next) (drop n (drop made changes)) → IsSplit tables (paragraphs_in next) → IsStepOf now (take n (drop made changes)) (drop n (drop made changes)) next → IsUnderWay tables old changes next (made + n)
+  unfolding touched-more
   way-further now next made n w few text range split step =
       let run = take n (drop made changes) in
+      let later = drop n (drop made changes) in
       let front = take-further changes made n in
+      let goes = subst (AreWhole w.touched.steps) (sym (take-append-drop n (drop made changes))) w.whole in
+      let more = touched-more old now next (take made changes) run later w.touched goes step in
       record {
         within = let e = w.within in omega (arith, few, length-drop made changes, e);
         split = split;
         text = text ∙ way-text now made n w;
         places = subst (AreInRange (text_in next)) (drop-drop n made changes) range;
-        touched = subst (λ c. AreTouched old c next) (sym front) (touched-more old now next (take made changes) run w.touched step);
+        touched = record { steps = more.steps; all = front ∙ more.all; touched = more.touched; whole = more.whole };
+        whole = subst (AreWhole more.steps) (drop-drop n made changes) (whole-further old now next (take made changes) run later w.touched goes step);
       }
 
   -- by what is left of the changes as a slice of them
   pub way-on : (now next : List (KeptParagraph K)) (made n : ℕ) (left : List Change) → left ≡ drop made changes → IsUnderWay tables old changes now made → n ≤ length left → text_in next ≡ all_changed (text_in now) (take n left)
-      → AreInRange (text_in next) (drop n left) → IsSplit tables (paragraphs_in next) → IsStepOf now (take n left) next → IsUnderWay tables old changes next (made + n)
+      → AreInRange (text_in next) (drop n left) → IsSplit tables (paragraphs_in next) → IsStepOf now (take n left) (drop n left) next → IsUnderWay tables old changes next (made + n)
   way-on now next made n left is w few text range split step =
       let size : length left ≡ length (drop made changes) = ap length is in
       way-further now next made n w (omega (arith, few, size)) (text ∙ ap (λ t. all_changed (text_in now) (take n t)) is) (subst (λ t. AreInRange (text_in next) (drop n t)) is range) split
-      (subst (λ t. IsStepOf now (take n t) next) is step)
+      (subst (λ t. IsStepOf now (take n t) (drop n t) next) is step)
 
 -- ---- changes in range
 
@@ -249,3 +276,41 @@ run-cut changes d place cuts puts old text some is none given rest =
     let more : suc cuts ≡ place + (1 + cuts) - place = omega arith in
     take-further changes (1 + cuts) puts
     ∙ ap₂ (λ x y. x ++ y) (run-rest changes d (Cut place) cuts some is ∙ ap (λ xs. Cut place ∷ xs) front ∙ ap (cuts_at place) more) (a.puts ∙ ap (puts_at place) (sym (a.text ∙ ap (λ t. t ++ a.points) none)))
+
+-- ---- all of it
+
+put-count : (changes : List Change) (place n : ℕ) (old text : List ℕ) (a : ArePut (take n changes) place old text) → n ≤ length changes → length a.points ≡ n
+put-count changes place n old text a within = let e = ap length a.puts in omega (arith, e, length-puts a.points place, length-take-le n changes within)
+
+ends-before : (from : ℕ) (points : List ℕ) (later : List Change) → PutsNotAt (from + length points) later → (points ≡ [] → CutsNotAt from later) → EndsBefore from points later
+ends-before from points [] puts cuts = tt
+ends-before from points (Put at ch ∷ later) puts cuts = puts
+ends-before from points (Cut at ∷ later) puts cuts = λ goes. cuts goes.0 goes.1
+
+pub whole-put : (changes : List Change) (place ch more : ℕ) (old text : List ℕ) → old ≡ ch ∷ [] → ArePut (take more (take (length changes - 1) (drop 1 changes))) (place + 1) old text
+    → more ≤ length (take (length changes - 1) (drop 1 changes)) → PutsNotAt (place + 1 + more) (drop more (take (length changes - 1) (drop 1 changes)))
+    → EndsBefore place text (drop (1 + more) changes)
+whole-put changes place ch more old text one given within none =
+    let rest = take (length changes - 1) (drop 1 changes) in
+    let count = put-count rest (place + 1) more old text given within in
+    let size = ap length (given.text ∙ ap (λ t. t ++ given.points) one) in
+    let end : place + 1 + more ≡ place + length text = omega (arith, count, size) in
+    let later = ap (drop more) (take_rest changes 1) ∙ drop-drop more 1 changes in
+    ends-before place text (drop (1 + more) changes) (subst (PutsNotAt (place + length text)) later (subst (λ n. PutsNotAt n (drop more rest)) end none))
+    (λ empty. absurd (omega (arith, ap length empty, size)))
+
+pub whole-cut : (changes : List Change) (place cuts puts : ℕ) (old text : List ℕ) → old ≡ []
+    → ArePut (take puts (take (length changes - (1 + cuts)) (drop (1 + cuts) changes))) place old text → puts ≤ length (take (length changes - (1 + cuts)) (drop (1 + cuts) changes))
+    → PutsNotAt (place + puts) (drop puts (take (length changes - (1 + cuts)) (drop (1 + cuts) changes))) → CutsNotAt place (drop cuts (take (length changes - 1) (drop 1 changes)))
+    → EndsBefore place text (drop (1 + cuts + puts) changes)
+whole-cut changes place cuts puts old text none given within no_put no_cut =
+    let rest = take (length changes - (1 + cuts)) (drop (1 + cuts) changes) in
+    let count = put-count rest place puts old text given within in
+    let size = ap length (given.text ∙ ap (λ t. t ++ given.points) none) in
+    let end : place + puts ≡ place + length text = omega (arith, count, size) in
+    let later = ap (drop puts) (take_rest changes (1 + cuts)) ∙ drop-drop puts (1 + cuts) changes in
+    let behind = ap (drop cuts) (take_rest changes 1) ∙ drop-drop cuts 1 changes in
+    ends-before place text (drop (1 + cuts + puts) changes) (subst (PutsNotAt (place + length text)) later (subst (λ n. PutsNotAt n (drop puts rest)) end no_put))
+    (λ empty.
+    let all : 1 + cuts ≡ 1 + cuts + puts = omega (arith, ap length empty, count, size) in
+    subst (CutsNotAt place) (behind ∙ ap (λ n. drop n changes) all) no_cut)

@@ -72,13 +72,29 @@ pub record Step : Type 0 where
 abbrev pub changes_of : Step → List Change
 changes_of step = cuts_at step.from (step.to - step.from) ++ puts_at step.from step.points
 
+-- a change goes on with an edit that puts these code points at a place: it puts one behind them, or cuts there too, if there is none
+abbrev pub GoesOn : (from : ℕ) → (points : List ℕ) → Change → Type 0
+GoesOn from points (Put place ch) = place ≡ from + length points
+GoesOn from points (Cut place) = (points ≡ []) × (place ≡ from)
+
+-- the first of these changes, if there is one, doesn't go on with it
+abbrev pub EndsBefore : (from : ℕ) → (points : List ℕ) → List Change → Type 0
+EndsBefore from points [] = Unit {0}
+EndsBefore from points (change ∷ changes) = GoesOn from points change → ⊥
+
+-- no edit goes on in the next one, nor the last one in these changes: neighbours are one edit
+abbrev pub AreWhole : List Step → List Change → Type 0
+AreWhole [] later = Unit {0}
+AreWhole (step ∷ steps) later = EndsBefore step.from step.points (flat_map changes_of steps ++ later) × AreWhole steps later
+
 -- the edits, one after the other, lead from the old paragraphs to the new ones
 abbrev pub IsTouchedInTurn : {K : Type 0} → List (KeptParagraph K) → List Step → List (KeptParagraph K) → Type 0
 IsTouchedInTurn old [] new = new ≡ old
 IsTouchedInTurn {K} old (step ∷ steps) new = (next : List (KeptParagraph K)) × IsTouched old step.from step.to step.touched next × IsTouchedInTurn next steps new
 
--- edits that stand for these changes do
+-- edits that stand for these changes do, of which none goes on in the next one
 pub record AreTouched {K : Type 0} (old : List (KeptParagraph K)) (changes : List Change) (new : List (KeptParagraph K)) : Type 0 where
   pub steps : List Step
   pub all : changes ≡ flat_map changes_of steps
   pub touched : IsTouchedInTurn old steps new
+  pub whole : AreWhole steps []

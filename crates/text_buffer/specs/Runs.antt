@@ -2,7 +2,8 @@
 use Rattle.std.specs.Prelude.{◌≡◌, ◌≤◌, ◌++◌, ℕ, List, [], ◌∷◌}
 use Rattle.bg_types.specs.declared.change.Change.{Change}
 use Rattle.text_buffer.specs.Buffers.{KeptParagraph}
-use Rattle.text_buffer.specs.Edits.{place_of, puts_at, changes_of, Step, IsTouched}
+use Rattle.bg_types.specs.declared.change.Change.TheVariants.{Put, Cut}
+use Rattle.text_buffer.specs.Edits.{place_of, puts_at, changes_of, EndsBefore, Step, IsTouched}
 
 -- the first of them is at no place that no text has
 abbrev pub BeginsLow : List Change → Type 0
@@ -15,8 +16,21 @@ pub record ArePut (changes : List Change) (place : ℕ) (old new : List ℕ) : T
   pub puts : changes ≡ puts_at place points
   pub text : new ≡ old ++ points
 
--- an edit that stands for these changes leads from the old paragraphs to the new ones
-pub record IsStepOf {K : Type 0} (old : List (KeptParagraph K)) (changes : List Change) (new : List (KeptParagraph K)) : Type 0 where
+-- the first of them, if there is one, puts nothing at this place
+abbrev pub PutsNotAt : (place : ℕ) → List Change → Type 0
+PutsNotAt place [] = Unit {0}
+PutsNotAt place (Put at ch ∷ changes) = at ≡ place → ⊥
+PutsNotAt place (Cut at ∷ changes) = Unit {0}
+
+-- nor does it cut there
+abbrev pub CutsNotAt : (place : ℕ) → List Change → Type 0
+CutsNotAt place [] = Unit {0}
+CutsNotAt place (Put at ch ∷ changes) = Unit {0}
+CutsNotAt place (Cut at ∷ changes) = at ≡ place → ⊥
+
+-- an edit that stands for these changes, and doesn't go on in those behind them, leads from the old paragraphs to the new ones
+pub record IsStepOf {K : Type 0} (old : List (KeptParagraph K)) (changes later : List Change) (new : List (KeptParagraph K)) : Type 0 where
   pub step : Step
   pub is : changes ≡ changes_of step
+  pub whole : EndsBefore step.from step.points later
   pub touched : IsTouched old step.from step.to step.touched new

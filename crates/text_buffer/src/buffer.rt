@@ -375,7 +375,7 @@ impl<K: Drop> Buffer<K> {
         ensures text { IfOk result (λ count. text_in self.new ≡ all_changed (text_in self.old) (take count changes.now)) }
         ensures places { IfOk result (λ count. AreInRange (text_in self.new) (drop count changes.now)) }
         ensures split { OnOk result (IsSplit tables.now (paragraphs_in self.new)) }
-        ensures touched { IfOk result (λ count. IsStepOf self.old (take count changes.now) self.new) }
+        ensures touched { IfOk result (λ count. IsStepOf self.old (take count changes.now) (drop count changes.now) self.new) }
         ensures unchanged { OnErr result (self.new ≡ self.old) }
         ensures too_long { result ≡ Err TooLong → (count : ℕ) × (0 < count) × (count ≤ length changes.now)
             × (4_000_000 < bytes_in (all_changed (text_in self.old) (take count changes.now))) }

@@ -1,10 +1,10 @@
 //! Runs of changes that are one edit.
 
-ghost use Rattle.std.specs.Prelude.{◌≡◌, ◌<◌, ◌≤◌, ◌+◌, ◌-◌, ◌^◌, ◌++◌, ℕ, List, [], ◌∷◌, true, false, None, length, take, string_bytes, IfOk, OnOk, IfSome};
+ghost use Rattle.std.specs.Prelude.{◌≡◌, ◌<◌, ◌≤◌, ◌+◌, ◌-◌, ◌^◌, ◌++◌, ℕ, List, [], ◌∷◌, true, false, None, length, take, drop, string_bytes, IfOk, OnOk, IfSome};
 ghost use Rattle.bg_types.specs.Edit.{IsInRange, changed};
 ghost use Rattle.paragraphs.specs.Text.{code_points};
-ghost use Rattle.text_buffer.specs.Edits.{AreInRange, cuts_at, puts_at};
-ghost use Rattle.text_buffer.specs.Runs.{BeginsLow, ArePut};
+ghost use Rattle.text_buffer.specs.Edits.{AreInRange, EndsBefore, cuts_at, puts_at};
+ghost use Rattle.text_buffer.specs.Runs.{BeginsLow, ArePut, CutsNotAt, PutsNotAt};
 
 use bg_types::{Change, Memory};
 use std::alloc::Global;
@@ -28,6 +28,7 @@ pub fn first_run(alloc: Global, changes: &[Change]) -> Result<Run, Memory>
     ensures within { IfOk result (λ run. run.count ≤ length changes.now) }
     ensures order { IfOk result (λ run. run.from ≤ run.to) }
     ensures run { IfOk result (λ run. take run.count changes.now ≡ cuts_at run.from (run.to - run.from) ++ puts_at run.from (code_points (string_bytes run.text))) }
+    ensures whole { IfOk result (λ run. EndsBefore run.from (code_points (string_bytes run.text)) (drop run.count changes.now)) }
 {
     let mut text = String::new(alloc);
     let first = changes[0];
@@ -60,6 +61,7 @@ fn puts_from(changes: &[Change], place: usize, text: &mut String) -> Result<usiz
     requires { place ≤ 4_000_001 }
     ensures within { IfOk result (λ count. count ≤ length changes.now) }
     ensures puts { IfOk result (λ count. ArePut (take count changes.now) place (code_points (string_bytes text.old)) (code_points (string_bytes text.new))) }
+    ensures whole { IfOk result (λ count. PutsNotAt (place + count) (drop count changes.now)) }
 {
     for (count, change) in changes.iter().enumerate() {
         match *change {
@@ -82,6 +84,7 @@ fn add(text: &mut String, ch: char) -> Result<(), Memory>
 fn cuts_from(changes: &[Change], place: usize) -> usize
     ensures within { result ≤ length changes.now }
     ensures cuts { take result changes.now ≡ cuts_at place result }
+    ensures whole { CutsNotAt place (drop result changes.now) }
 {
     for (count, change) in changes.iter().enumerate() {
         match *change {

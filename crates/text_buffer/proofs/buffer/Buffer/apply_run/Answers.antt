@@ -58,4 +58,4 @@ returns-clause-places g c =
 pub returns-clause-touched : goal.returns-clause-touched
 returns-clause-touched g c =
     let run = c.in_ok-first.first in
-    record { step = record { from = run.from; to = run.to; points = code_points (string_bytes run.text); touched = _ }; is = c.in_ok-first.ensures.run; touched = c.in_ok-edit.ensures.touched }
+    record { step = record { from = run.from; to = run.to; points = code_points (string_bytes run.text); touched = _ }; is = c.in_ok-first.ensures.run; whole = c.in_ok-first.ensures.whole; touched = c.in_ok-edit.ensures.touched }
