@@ -67,7 +67,7 @@ IsWindowKept d place above below =
 
 -- a window was laid out: its rows are those of the paragraphs from `first` up to `end`; so many of these were laid out as were
 -- not kept, and all of them are kept now; what was kept of others stays, unless all weigh too much, and then so much of it goes
--- that they do not, or all; nothing more is kept of others
+-- that they do not, or all; nothing more is kept of others, and the paragraphs are no longer behind
 pub record IsLaidOut (old new : LiveDocument) (place above below : ℕ) : Type 0 where
   pub first : ℕ
   pub end : ℕ
